@@ -1,0 +1,7 @@
+pub mod Edits
+pub mod Faults
+pub mod Laws
+pub mod LineStarts
+pub mod Lines
+pub mod Positions
+pub mod Units

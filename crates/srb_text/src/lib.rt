@@ -1,0 +1,155 @@
+//! Texts, and positions and edits in them.
+//!
+//! A `Text` is UTF-8 and is seen as the list of its characters. Offsets count bytes. A `Pos` counts lines, and
+//! in a line UTF-16 units, as the Language Server Protocol does (LSP 3.17, "Position"): `offset`, `pos` and
+//! `splice` are the definitions `offset_of`, `position_of` and `edited`, which are over a plain list of
+//! characters and generic in what a character weighs.
+#![tactic(auto)]
+
+ghost use Rattle.std.specs.Prelude.{◌≡◌, ◌+◌, ◌<◌, ◌≤◌, length, true, IfOk, IfErr, OnOk, OnErr, MatchResult};
+ghost use Rattle.std.specs.Str.{IsUtf8, all_scalars, chars, encode_utf8_all};
+ghost use Rattle.srb_text.specs.Edits.{edited, IsEditFault};
+ghost use Rattle.srb_text.specs.Faults.{IsTextFault};
+ghost use Rattle.srb_text.specs.Positions.{byte_len, len_utf16, offset_of, position_of, IsStart};
+
+pub mod laws;
+mod places;
+mod table;
+mod units;
+
+use std::alloc::{AllocError, Global};
+use std::marker::Model;
+
+/// A place in a text: the number of a line, and in it a number of UTF-16 units. Both begin at 0.
+#[derive(Clone, Copy, Debug, PartialEq, Eq)]
+pub struct Pos {
+    pub line: u32,
+    pub unit: u32,
+}
+
+/// Why bytes are no text.
+#[derive(Clone, Copy, Debug, PartialEq, Eq)]
+pub enum TextFault {
+    /// The bytes are not UTF-8, and `at` is the length of their longest front that is.
+    NotUtf8 { at: u64 },
+    NoMemory,
+}
+
+/// Why a part of a text was not replaced.
+#[derive(Clone, Copy, Debug, PartialEq, Eq)]
+pub enum EditFault {
+    /// The part would start behind its end: these are the offsets of both, in bytes.
+    Backwards { start: u32, end: u32 },
+    NoMemory,
+}
+
+/// A text of at most 16,777,216 bytes.
+#[derive(Drop)]
+pub struct Text {
+    text: String,
+    starts: Vec<u32>,
+}
+
+impl Model for Text {
+    ghost use Rattle.std.specs.Prelude.{◌≡◌, ℕ, ◌≤◌, List, length};
+    ghost use Rattle.std.specs.Str.{chars};
+    ghost use Rattle.std.specs.String.{string_bytes};
+    ghost use Rattle.srb_text.specs.LineStarts.{line_starts};
+
+    ghost Value = { List ℕ };
+
+    ghost view = { λ t. chars (string_bytes t.text) };
+
+    ghost invariant = { λ t. (t.starts.items ≡ line_starts (string_bytes t.text)) × (length (string_bytes t.text) ≤ 16777216) };
+}
+
+impl Text {
+    /// The text that the bytes spell.
+    pub fn from_bytes(alloc: Global, bytes: &[u8]) -> Result<Text, TextFault>
+        requires { length bytes.now ≤ 16777216 }
+        ensures { MatchResult result (λ t. IsUtf8 bytes.now × (t ≡ chars bytes.now)) (IsTextFault bytes.now) }
+    {
+        match std::str::from_utf8(bytes) {
+            Ok(text) => match made(alloc, text) {
+                Ok(text) => Ok(text),
+                Err(_) => Err(TextFault::NoMemory),
+            },
+            Err(fault) => Err(TextFault::NotUtf8 {
+                at: fault.valid_up_to() as u64,
+            }),
+        }
+    }
+
+    /// The text in UTF-8.
+    pub fn as_str(&self) -> &str
+        ensures bytes { result.now ≡ encode_utf8_all self.now }
+        ensures scalars { all_scalars self.now ≡ true }
+        ensures len { length result.now ≡ byte_len self.now }
+        ensures small { length result.now ≤ 16777216 }
+    {
+        self.text.as_str()
+    }
+
+    /// The offset in bytes that a position names. Behind a line's last character it is where the line's end
+    /// begins, inside a character where that starts, and for a line behind the last the text's end.
+    pub fn offset(&self, p: Pos) -> u32
+        ensures offset { result ≡ offset_of len_utf16 self.now p }
+        ensures start { IsStart self.now result }
+    {
+        places::offset_in(self.starts.as_slice(), self.text.as_bytes(), p)
+    }
+
+    /// The position of an offset in bytes. Between the two characters of a line's end it is where that begins.
+    pub fn pos(&self, at: u32) -> Pos
+        requires { IsStart self.now at }
+        ensures { result ≡ position_of len_utf16 self.now at }
+    {
+        places::position_in(self.starts.as_slice(), self.text.as_bytes(), at)
+    }
+
+    /// Puts `new` in the place of what stands between two positions. After an error the text is as it was.
+    pub fn splice(&mut self, alloc: Global, from: Pos, to: Pos, new: &str) -> Result<(), EditFault>
+        requires { offset_of len_utf16 self.old from ≤ offset_of len_utf16 self.old to → byte_len (edited len_utf16 self.old from to (chars new.now)) ≤ 16777216 }
+        ensures edited { OnOk result (self.new ≡ edited len_utf16 self.old from to (chars new.now)) }
+        ensures ordered { OnOk result (offset_of len_utf16 self.old from ≤ offset_of len_utf16 self.old to) }
+        ensures fault { IfErr result (IsEditFault (offset_of len_utf16 self.old from) (offset_of len_utf16 self.old to)) }
+        ensures unchanged { OnErr result (self.new ≡ self.old) }
+    {
+        let start = self.offset(from);
+        let end = self.offset(to);
+        if end < start {
+            return Err(EditFault::Backwards { start, end });
+        }
+        match table::renewed(
+            alloc,
+            self.starts.as_slice(),
+            self.text.as_bytes(),
+            start,
+            end,
+            new.as_bytes(),
+        ) {
+            Err(_) => Err(EditFault::NoMemory),
+            Ok(starts) => {
+                match self.text.replace_range(start as usize..end as usize, new) {
+                    Err(_) => Err(EditFault::NoMemory),
+                    Ok(()) => {
+                        self.starts = starts;
+                        Ok(())
+                    }
+                }
+            }
+        }
+    }
+}
+
+fn made(alloc: Global, text: &str) -> Result<Text, AllocError>
+    requires { length text.now ≤ 16777216 }
+    ensures { IfOk result (λ t. t ≡ chars text.now) }
+{
+    let starts = table::built(alloc, text.as_bytes())?;
+    let text = String::from_str(alloc, text)?;
+    Ok(Text { text, starts })
+}
+
+#[cfg(test)]
+mod tests;
