@@ -1,0 +1,4 @@
+pub mod DiagOrder
+pub mod formers
+pub mod Projects
+pub mod Statuses
