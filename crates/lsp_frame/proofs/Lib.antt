@@ -1,0 +1,15 @@
+pub mod Digits
+pub mod HeadLemmas
+pub mod FirstLemmas
+pub mod NextLemmas
+pub mod BodiesLemmas
+pub mod GivesLemmas
+pub mod ScanLemmas
+pub mod NameLemmas
+pub mod ReachedLemmas
+pub mod StepLemmas
+pub mod RunLemmas
+pub mod SaysLemmas
+pub mod WholeLemmas
+pub mod LeastLemmas
+pub mod WrittenLemmas

@@ -1,0 +1,7 @@
+pub mod Bytes
+pub mod Head
+pub mod First
+pub mod Bodies
+pub mod Stream
+pub mod Written
+pub mod Grammar
