@@ -1,0 +1,4 @@
+pub mod ErrorCodes
+pub mod Params
+pub mod Decoded
+pub mod Written
