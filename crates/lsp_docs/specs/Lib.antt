@@ -1,0 +1,4 @@
+pub mod Paths
+pub mod Projects
+pub mod Uris
+pub mod Documents

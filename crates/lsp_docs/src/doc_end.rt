@@ -1,0 +1,16 @@
+/// Why a message about a document does nothing.
+#[derive(Clone, Copy, Debug, PartialEq, Eq)]
+pub enum DocEnd {
+    /// The URI names no path below the root.
+    Foreign,
+    /// The path isn't open.
+    Unknown,
+    /// The path is new, and the project has this many files, which are all that it may have.
+    TooMany { count: u64 },
+    /// A range would start behind its end: these are the offsets of both, in bytes.
+    Backwards { start: u32, end: u32 },
+    /// The texts of the project would have this many bytes together, which are too many.
+    TooBig { bytes: u64 },
+    /// There was no memory.
+    NoMemory,
+}

@@ -1,0 +1,11 @@
+pub mod Messages
+pub mod Histories
+pub mod Legality
+pub mod Held
+pub mod Runs
+pub mod Shown
+pub mod Counting
+pub mod Ordering
+pub mod Languages
+pub mod Examples
+pub mod Landing

@@ -1,0 +1,8 @@
+use Rattle.run_core.proofs.Legality.{legal_part, legal_stays}
+use Rattle.run_core.proofs.law.legality_lasts.Goals as goal
+
+pub returns-clause-parts : goal.returns-clause-parts
+returns-clause-parts c = legal_part
+
+pub returns-clause-behind : goal.returns-clause-behind
+returns-clause-behind c = legal_stays

@@ -1,0 +1,9 @@
+pub mod Language
+pub mod Sessions
+pub mod Histories
+pub mod Legal
+pub mod Settled
+pub mod Machine
+pub mod Runs
+pub mod Counts
+pub mod Order
