@@ -1,0 +1,30 @@
+//! The loop over a text.
+
+ghost use Rattle.std.specs.Prelude.{◌≡◌, ◌≤◌, length};
+ghost use Rattle.rb_lex.specs.Lexed.{Gives, lexed};
+
+use crate::LexEnd;
+use crate::chars::behind;
+use crate::state::State;
+use rb_tree::token::Token;
+use std::alloc::Global;
+
+/// The tokens of the bytes of a text.
+pub fn lex_bytes(alloc: Global, text: &[u8]) -> Result<Vec<Token>, LexEnd>
+    requires { length text.now ≤ 16777216 }
+    ensures { Gives (λ v. v.items) result (lexed text.now) }
+{
+    let mut state = State::new(alloc);
+    let mut at: u32 = 0;
+    let mut rest = text;
+    while !rest.is_empty() {
+        match state.step(alloc, at, rest) {
+            Ok(len) => {
+                at += len as u32;
+                rest = behind(rest, len);
+            }
+            Err(end) => return Err(end),
+        }
+    }
+    state.finish(at)
+}

@@ -1,0 +1,412 @@
+//! The lexer's state between two steps, and the steps that change it.
+
+ghost use Rattle.std.specs.Prelude.{◌≡◌, ◌≢◌, ◌<◌, ◌≤◌, ◌+◌, ◌-◌, ◌^◌, length, slice_index, IfOk, OnOk, true, false};
+ghost use Rattle.std.specs.Option.{option_copied};
+ghost use Rattle.std.specs.Prelude.{◌||◌};
+ghost use Rattle.rb_tree.specs.Tokens.{same_shape};
+ghost use Rattle.rb_lex.specs.Lexed as spec;
+ghost use Rattle.rb_lex.specs.Lexed.{Gives, IsNoMemory};
+
+use crate::LexEnd;
+use crate::chars::{behind, byte, is_letter};
+use crate::cut::{Before, Cut, Lexeme, Look, cut_of, is_opener};
+use crate::piece::{Stop, is_touched, piece_of};
+use rb_tree::token::{Shape, Token, TokenKind};
+use srb_terms::{Items, NoMemory, Span, Words};
+use std::alloc::Global;
+
+/// A string that is open: its quote, the place where it begins, and that where its present piece does.
+#[derive(Clone, Copy)]
+pub struct Opened {
+    pub quote: u8,
+    pub opening: u32,
+    pub from: u32,
+}
+
+/// What the lexer knows at a place.
+#[derive(Drop)]
+pub struct State {
+    /// The tokens before the place.
+    pub tokens: Items<Token>,
+    /// How many of them stand up to and with the last that is no line's end behind it.
+    pub mark: usize,
+    /// What is open, the innermost last: a `{`, or an interpolation, with the place where its string begins.
+    pub nesting: Items<Option<u32>>,
+    /// The string in which the place is.
+    pub string: Option<Opened>,
+    pub look: Look,
+    /// Whether a line's end here is a separator.
+    pub keeps: bool,
+    /// Whether a `|` is open that began block parameters.
+    pub has_bars: bool,
+}
+
+impl From<NoMemory> for LexEnd {
+    ghost from_gives = { λ _ end. IsNoMemory end };
+
+    fn from(_: NoMemory) -> LexEnd {
+        LexEnd::NoMemory
+    }
+}
+
+fn copied(alloc: Global, words: &[u8]) -> Result<Words, LexEnd>
+    ensures { Gives (λ w. w) result (Ok words.now) }
+{
+    match std::str::from_utf8(words) {
+        Ok(text) => Ok(Words::from_str(alloc, text)?),
+        Err(_) => Err(LexEnd::NoMemory),
+    }
+}
+
+fn is_sigiled(shape: Shape) -> bool
+    ensures { result ≡ (same_shape shape Shape.InstanceVariable || same_shape shape Shape.Symbol) }
+{
+    shape.is(Shape::InstanceVariable) || shape.is(Shape::Symbol)
+}
+
+/// The bytes of a token that are its words.
+fn words_of(shape: Shape, len: usize, z: &[u8]) -> &[u8]
+    requires within { len ≤ length z.now }
+    requires moves { 0 < len }
+    ensures { result.now ≡ spec.words_of shape len z.now }
+{
+    if is_sigiled(shape) {
+        behind(&z[..len], 1)
+    } else if shape.is(Shape::Label) {
+        &z[..len - 1]
+    } else {
+        &z[..len]
+    }
+}
+
+fn named_kind(alloc: Global, shape: Shape, words: &[u8]) -> Result<TokenKind, LexEnd>
+    ensures { Gives (λ k. k) result (Ok (spec.named_kind shape words.now)) }
+{
+    let words = copied(alloc, words)?;
+    Ok(named(shape, words))
+}
+
+fn named(shape: Shape, words: Words) -> TokenKind
+    ensures { result ≡ spec.named_kind shape words }
+{
+    if shape.is(Shape::Identifier) {
+        TokenKind::Identifier { words }
+    } else if shape.is(Shape::Constant) {
+        TokenKind::Constant { words }
+    } else if shape.is(Shape::InstanceVariable) {
+        TokenKind::InstanceVariable { words }
+    } else if shape.is(Shape::Label) {
+        TokenKind::Label { words }
+    } else if shape.is(Shape::Symbol) {
+        TokenKind::Symbol { words }
+    } else if shape.is(Shape::Whole) {
+        TokenKind::Whole { words }
+    } else if shape.is(Shape::Float) {
+        TokenKind::Float { words }
+    } else {
+        TokenKind::Text { words }
+    }
+}
+
+#[tactic(auto, unfolding(crate::specs::Lexed::kind_of))]
+fn kind_of(alloc: Global, shape: Shape, words: &[u8]) -> Result<TokenKind, LexEnd>
+    ensures { Gives (λ k. k) result (Ok (spec.kind_of shape words.now)) }
+{
+    match shape.plain() {
+        Some(kind) => Ok(kind),
+        None => named_kind(alloc, shape, words),
+    }
+}
+
+fn continues(shape: Shape, rest: &[u8]) -> bool
+    ensures { result ≡ spec.continues shape rest.now }
+{
+    shape.is(Shape::SafeDot) || (shape.is(Shape::Dot) && is_letter(byte(rest, 0)))
+}
+
+impl State {
+    pub fn new(alloc: Global) -> State
+        ensures { result ≡ spec.START }
+    {
+        State {
+            tokens: Items::new(alloc),
+            mark: 0,
+            nesting: Items::new(alloc),
+            string: None,
+            look: Look {
+                before: Before::Plain,
+                is_blank: false,
+                is_fresh: true,
+            },
+            keeps: false,
+            has_bars: false,
+        }
+    }
+
+    fn push(&mut self, kind: TokenKind, start: u32, end: u32) -> Result<(), LexEnd>
+        ensures { Gives (λ _. self.new) result (Ok (spec.pushed kind start end self.old)) }
+    {
+        let span = Span { start, end };
+        self.tokens.push(Token { kind, span })?;
+        self.mark = self.tokens.len();
+        Ok(())
+    }
+
+    fn pass_line(&mut self, at: u32) -> Result<(), LexEnd>
+        requires { at < 2 ^ 31 }
+        ensures { Gives (λ _. self.new) result (Ok (spec.behind_line at self.old)) }
+    {
+        if self.keeps {
+            let span = Span {
+                start: at,
+                end: at + 1,
+            };
+            self.tokens.push(Token {
+                kind: TokenKind::Separator,
+                span,
+            })?;
+            self.look.before = Before::Plain;
+        }
+        self.look.is_blank = true;
+        self.look.is_fresh = true;
+        Ok(())
+    }
+
+    fn join(&mut self, goes: bool)
+        ensures { self.new ≡ spec.joined goes self.old }
+    {
+        if goes {
+            self.tokens.truncate(self.mark);
+        }
+    }
+
+    fn close(&mut self, end: u32)
+        ensures { self.new ≡ spec.closed end self.old }
+    {
+        let last = self.nesting.len().saturating_sub(1);
+        self.string = string_behind(end, self.nesting.get(last));
+        self.nesting.truncate(last);
+    }
+
+    fn nest(&mut self, shape: Shape, end: u32) -> Result<(), LexEnd>
+        ensures { Gives (λ _. self.new) result (Ok (spec.nested shape end self.old)) }
+    {
+        if shape.is(Shape::OpenBrace) {
+            self.nesting.push(None)?;
+        } else if shape.is(Shape::CloseBrace) {
+            self.close(end);
+        }
+        Ok(())
+    }
+
+    fn enter(&mut self, lexeme: Lexeme)
+        ensures { self.new ≡ spec.entered lexeme self.old }
+    {
+        let is_bar = lexeme.shape.is(Shape::Pipe);
+        let opens = !self.has_bars && is_opener(self.look.before);
+        self.keeps = lexeme.keeps || (is_bar && self.has_bars);
+        if is_bar {
+            self.has_bars = opens;
+        }
+        self.look = Look {
+            before: lexeme.before,
+            is_blank: false,
+            is_fresh: false,
+        };
+    }
+
+    #[tactic(auto, unfolding(crate::specs::Lexed::accepted))]
+    fn accept(&mut self, alloc: Global, lexeme: Lexeme, at: u32, z: &[u8]) -> Result<(), LexEnd>
+        requires within { lexeme.len ≤ length z.now }
+        requires moves { 0 < lexeme.len }
+        requires fits { at + length z.now < 2 ^ 31 }
+        ensures { Gives (λ _. self.new) result (Ok (spec.accepted lexeme at z.now self.old)) }
+    {
+        let end = at + lexeme.len as u32;
+        self.join(continues(lexeme.shape, behind(z, lexeme.len)));
+        let kind = kind_of(alloc, lexeme.shape, words_of(lexeme.shape, lexeme.len, z))?;
+        self.push(kind, at, end)?;
+        self.enter(lexeme);
+        self.nest(lexeme.shape, end)
+    }
+
+    #[tactic(auto, unfolding(crate::specs::Lexed::code_step))]
+    fn code_step(&mut self, alloc: Global, at: u32, z: &[u8]) -> Result<usize, LexEnd>
+        requires some { 0 < length z.now }
+        requires fits { at + length z.now < 2 ^ 31 }
+        ensures value { Gives (λ n. (n, self.new)) result (spec.code_step at z.now self.old) }
+        ensures within { IfOk result (λ n. (0 < n) × (n ≤ length z.now)) }
+    {
+        match cut_of(self.look, z) {
+            Cut::Blank { len, is_fresh } => {
+                self.look.is_blank = true;
+                self.look.is_fresh = is_fresh;
+                Ok(len)
+            }
+            Cut::Line => {
+                self.pass_line(at)?;
+                Ok(1)
+            }
+            Cut::Quote => {
+                self.string = Some(Opened {
+                    quote: byte(z, 0),
+                    opening: at,
+                    from: at,
+                });
+                Ok(1)
+            }
+            Cut::Token { lexeme } => {
+                self.accept(alloc, lexeme, at, z)?;
+                Ok(lexeme.len)
+            }
+            Cut::Outside => Err(LexEnd::Outside { at }),
+            Cut::Bad => Err(LexEnd::Bad { at }),
+        }
+    }
+
+    fn leave(&mut self, is_end: bool)
+        ensures { self.new ≡ spec.left is_end self.old }
+    {
+        self.string = None;
+        self.look = Look {
+            before: if is_end {
+                Before::Operand
+            } else {
+                Before::Plain
+            },
+            is_blank: false,
+            is_fresh: false,
+        };
+        self.keeps = true;
+    }
+
+    fn push_piece(
+        &mut self,
+        alloc: Global,
+        piece: &[u8],
+        start: u32,
+        end: u32,
+    ) -> Result<(), LexEnd>
+        ensures { Gives (λ _. self.new) result (Ok (spec.pushed (TokenKind.Text piece.now) start end self.old)) }
+    {
+        let words = copied(alloc, piece)?;
+        self.push(TokenKind::Text { words }, start, end)
+    }
+
+    fn quoted(
+        &mut self,
+        alloc: Global,
+        opened: Opened,
+        at: u32,
+        len: usize,
+        z: &[u8],
+    ) -> Result<usize, LexEnd>
+        requires within { len < length z.now }
+        requires fits { at + length z.now < 2 ^ 31 }
+        ensures value { Gives (λ n. (n, self.new)) result (spec.quoted opened at len z.now self.old) }
+        ensures within { IfOk result (λ n. (0 < n) × (n ≤ length z.now)) }
+    {
+        if is_touched(behind(z, len + 1)) {
+            return Err(LexEnd::Outside { at: opened.opening });
+        }
+        let end = at + len as u32 + 1;
+        self.push_piece(alloc, &z[..len], opened.from, end)?;
+        self.leave(true);
+        Ok(len + 1)
+    }
+
+    fn interpolated(
+        &mut self,
+        alloc: Global,
+        opened: Opened,
+        at: u32,
+        len: usize,
+        z: &[u8],
+    ) -> Result<usize, LexEnd>
+        requires within { len + 1 < length z.now }
+        requires fits { at + length z.now < 2 ^ 31 }
+        ensures value { Gives (λ n. (n, self.new)) result (spec.interpolated opened at len z.now self.old) }
+        ensures within { IfOk result (λ n. (0 < n) × (n ≤ length z.now)) }
+    {
+        let end = at + len as u32;
+        self.push_piece(alloc, &z[..len], opened.from, end)?;
+        self.push(TokenKind::Interpolation, end, end + 2)?;
+        self.nesting.push(Some(opened.opening))?;
+        self.leave(false);
+        Ok(len + 2)
+    }
+
+    #[tactic(auto, unfolding(crate::specs::Lexed::string_step))]
+    fn string_step(
+        &mut self,
+        alloc: Global,
+        opened: Opened,
+        at: u32,
+        z: &[u8],
+    ) -> Result<usize, LexEnd>
+        requires fits { at + length z.now < 2 ^ 31 }
+        ensures value { Gives (λ n. (n, self.new)) result (spec.string_step opened at z.now self.old) }
+        ensures within { IfOk result (λ n. (0 < n) × (n ≤ length z.now)) }
+    {
+        let piece = piece_of(opened.quote, z);
+        match piece.stop {
+            Stop::Quote => self.quoted(alloc, opened, at, piece.len, z),
+            Stop::Interpolation => self.interpolated(alloc, opened, at, piece.len, z),
+            Stop::Foreign => Err(LexEnd::Outside {
+                at: at + piece.len as u32,
+            }),
+            Stop::End => Err(LexEnd::Bad {
+                at: at + piece.len as u32,
+            }),
+        }
+    }
+
+    /// Takes one step from the place `at`, behind which `z` stands, and answers how many bytes it takes.
+    #[tactic(auto, unfolding(crate::specs::Lexed::step))]
+    pub fn step(&mut self, alloc: Global, at: u32, z: &[u8]) -> Result<usize, LexEnd>
+        requires some { 0 < length z.now }
+        requires fits { at + length z.now < 2 ^ 31 }
+        ensures value { Gives (λ n. (n, self.new)) result (spec.step at z.now self.old) }
+        ensures within { IfOk result (λ n. (0 < n) × (n ≤ length z.now)) }
+    {
+        match self.string {
+            Some(opened) => self.string_step(alloc, opened, at, z),
+            None => self.code_step(alloc, at, z),
+        }
+    }
+
+    fn is_inside(&self) -> bool
+        ensures { result ≡ spec.is_inside self.now.nesting }
+    {
+        for frame in self.nesting.as_slice() {
+            if frame.is_some() {
+                return true;
+            }
+        }
+        false
+    }
+
+    /// The tokens, at the text's end.
+    pub fn finish(self, at: u32) -> Result<Vec<Token>, LexEnd>
+        ensures { Gives (λ v. v.items) result (spec.finished at self) }
+    {
+        if self.string.is_some() || self.is_inside() {
+            return Err(LexEnd::Bad { at });
+        }
+        let State { tokens, .. } = self;
+        Ok(tokens.into_vec())
+    }
+}
+
+fn string_behind(end: u32, last: Option<&Option<u32>>) -> Option<Opened>
+    ensures { result ≡ spec.string_behind end (option_copied last.entry) }
+{
+    match last {
+        Some(Some(opening)) => Some(Opened {
+            quote: b'"',
+            opening: *opening,
+            from: end,
+        }),
+        _ => None,
+    }
+}
