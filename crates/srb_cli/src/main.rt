@@ -1,0 +1,44 @@
+//! The program `srb`: its words, and what each command reads, writes and answers.
+#![tactic(auto)]
+
+mod commands;
+mod one_thread;
+#[cfg(test)]
+mod tests;
+mod text;
+mod usage;
+
+use commands::run;
+use srb_io::{StdSink, StdSource};
+use srb_terms::Cause;
+use std::alloc::AllocError;
+use std::env;
+use std::io::ErrorKind;
+use std::process::ExitCode;
+
+/// The words behind the program's name. Where one isn't UTF-8 there are none, and no command has none.
+fn words(rt: &HostRuntime) -> Result<Vec<String>, AllocError> {
+    let mut words = Vec::new(rt.alloc());
+    match env::args(rt) {
+        Ok(args) => {
+            for word in args.skip(1) {
+                words.push(word)?;
+            }
+            Ok(words)
+        }
+        Err(e) if e.kind() == ErrorKind::OutOfMemory => Err(AllocError),
+        Err(_) => Ok(words),
+    }
+}
+
+fn main(rt: HostRuntime) -> ExitCode {
+    let mut source = StdSource::new(rt.stdin());
+    let mut sink = StdSink::new(rt.stdout());
+    match words(&rt) {
+        Ok(words) => {
+            let ended = run(&rt, rt.alloc(), words.as_slice(), &mut source, &mut sink);
+            ExitCode::from(ended.status)
+        }
+        Err(AllocError) => ExitCode::from(Cause::NoMemory.status()),
+    }
+}

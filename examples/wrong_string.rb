@@ -1,0 +1,2 @@
+# typed: true
+x = T.let("a", Integer)
