@@ -181,13 +181,13 @@ fn calls_on_files_that_fail(rt: HostRuntime) -> Result<(), Fail> {
 #[test]
 fn files_of_the_system(rt: HostRuntime) -> Result<(), Fail> {
     let alloc = rt.alloc();
-    let top = "/tmp/srb_io_files_of_the_system";
+    let top = "srb_io_files_of_the_system";
     let _ = fs::remove_dir_all(&rt, top);
-    fs::create_dir_all(&rt, "/tmp/srb_io_files_of_the_system/sub")?;
-    fs::write(&rt, "/tmp/srb_io_files_of_the_system/b.rb", "nil\n")?;
-    fs::write(&rt, "/tmp/srb_io_files_of_the_system/c.txt", "nil\n")?;
-    fs::write(&rt, "/tmp/srb_io_files_of_the_system/sub/a.rb", "1\n")?;
-    rt.symlink("b.rb", "/tmp/srb_io_files_of_the_system/a.rb")?;
+    fs::create_dir_all(&rt, "srb_io_files_of_the_system/sub")?;
+    fs::write(&rt, "srb_io_files_of_the_system/b.rb", "nil\n")?;
+    fs::write(&rt, "srb_io_files_of_the_system/c.txt", "nil\n")?;
+    fs::write(&rt, "srb_io_files_of_the_system/sub/a.rb", "1\n")?;
+    rt.symlink("b.rb", "srb_io_files_of_the_system/a.rb")?;
     let mut files = DirFiles::new(&rt);
     let Ok(paths) = files.list(alloc, top) else {
         assert!(rt; false, "the folder can be read");
