@@ -1,7 +1,9 @@
-//! The trees of Ruby source. So far they are those of thin texts: a list of statements, each a literal, an assertion on
+//! The tokens and trees of Ruby source. `syntax` has the trees of the whole language. The types in this file are the trees
+//! of thin texts, which are what is checked: a list of statements, each a literal, an assertion on
 //! a literal by `T.let`, or a question by `T.reveal_type`, perhaps assigned to a variable.
 #![tactic(auto)]
 
+pub mod syntax;
 pub mod token;
 
 use srb_terms::{Items, Span};
