@@ -1,6 +1,6 @@
 -- One step in a text outside strings: what begins at a place, by what stands before it. A rule of the profile is tested before the
 -- rules of what is no token, so that of two broken ones at a place the first wins.
-use Rattle.std.specs.Prelude.{◌≡◌, ℕ, ◌+◌, ◌<◌, ◌≤◌, Bool, true, false, not, ◌||◌, ◌&&◌, ◌==◌, nat_le, nat_eq, if◌then◌else◌, List, [], ◌∷◌, length, take, drop, slice_index, codes}
+use Rattle.std.specs.Prelude.{ℕ, ◌+◌, ◌<◌, ◌≤◌, Bool, true, false, not, ◌||◌, ◌&&◌, ◌==◌, nat_le, nat_eq, if◌then◌else◌, List, length, take, slice_index, codes}
 use Rattle.std.specs.List.{starts_with}
 use Rattle.rb_tree.specs.Tokens.{same_shape}
 use Rattle.rb_tree.specs.declared.token.Shape.{Shape}

@@ -1,6 +1,6 @@
 -- The level of a text. In the longest prefix of blanks, line ends and comments the first comment decides whose text is blanks,
 -- `typed:`, blanks, the word of a level, and blanks; each "blanks" may be none. Without one the level is `false`.
-use Rattle.std.specs.Prelude.{ℕ, zero, suc, ◌+◌, ◌-◌, ◌<◌, ◌≤◌, Bool, not, ◌==◌, nat_eq, if◌then◌else◌, List, [], ◌∷◌, length, take, drop, slice_index, codes, bytes_eq, Option, Some, None}
+use Rattle.std.specs.Prelude.{ℕ, zero, suc, ◌+◌, ◌-◌, ◌<◌, ◌≤◌, not, ◌==◌, nat_eq, if◌then◌else◌, List, [], ◌∷◌, length, take, drop, slice_index, codes, bytes_eq, Option, Some, None}
 use Rattle.std.specs.List.{starts_with, prefix_len}
 use Rattle.std.specs.Str.{encode_utf8_all}
 use Rattle.srb_terms.specs.declared.level.Level.{Level}

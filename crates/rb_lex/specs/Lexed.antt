@@ -1,8 +1,7 @@
 -- The tokens of a text, or its first refused place, by one pass from the front.
-use Rattle.std.specs.Prelude.{◌≡◌, ℕ, zero, suc, ◌+◌, ◌-◌, Bool, true, false, not, ◌||◌, ◌&&◌, ◌==◌, nat_le, if◌then◌else◌, List, [], ◌∷◌, ◌++◌, length, take, drop, slice_index, slice_get, Option, Some, None, is_some, Result, Ok, Err}
+use Rattle.std.specs.Prelude.{◌≡◌, ℕ, zero, suc, ◌+◌, ◌-◌, Bool, true, false, not, ◌||◌, ◌&&◌, if◌then◌else◌, List, [], ◌∷◌, ◌++◌, length, take, slice_index, slice_get, Option, Some, None, is_some, Result, Ok, Err}
 use Rattle.std.specs.List.{list_any}
 use Rattle.std.specs.Str.{encode_utf8_all}
-use Rattle.srb_terms.specs.declared.span.Span.{Span}
 use Rattle.rb_tree.specs.Tokens.{same_shape, plain_kind}
 use Rattle.rb_tree.specs.declared.token.Token.{Token}
 use Rattle.rb_tree.specs.declared.token.TokenKind.{TokenKind}
@@ -11,15 +10,12 @@ use Rattle.rb_tree.specs.declared.token.Shape.{Shape}
 use Rattle.rb_tree.specs.declared.token.Shape.TheVariants as shape
 use Rattle.rb_lex.specs.Chars.{is_letter, behind}
 use Rattle.rb_lex.specs.Pieces.{piece_of, is_touched}
-use Rattle.rb_lex.specs.Cuts.{cut_of, is_opener}
+use Rattle.rb_lex.specs.Cuts.{cut_of, is_opener, behind_operator, names_method}
+use Rattle.rb_lex.specs.declared.cut.Before.{Before}
 use Rattle.rb_lex.specs.declared.cut.Before.TheVariants as before
-use Rattle.rb_lex.specs.declared.cut.Look.{Look}
 use Rattle.rb_lex.specs.declared.cut.Lexeme.{Lexeme}
-use Rattle.rb_lex.specs.declared.cut.Cut.{Cut}
 use Rattle.rb_lex.specs.declared.cut.Cut.TheVariants as cuts
-use Rattle.rb_lex.specs.declared.piece.Stop.{Stop}
 use Rattle.rb_lex.specs.declared.piece.Stop.TheVariants as stop
-use Rattle.rb_lex.specs.declared.piece.Piece.{Piece}
 use Rattle.rb_lex.specs.declared.state.Opened.{Opened}
 use Rattle.rb_lex.specs.declared.state.State.{State}
 use Rattle.rb_lex.specs.declared.LexEnd.{LexEnd}
@@ -83,6 +79,10 @@ continues s rest = same_shape s shape.SafeDot || (same_shape s shape.Dot && is_l
 abbrev pub joined : Bool → State → State
 joined goes s = if goes then record s { tokens = take s.mark s.tokens } else s
 
+-- and the token stands behind that last token
+abbrev pub continued : Bool → Before → Lexeme → Lexeme
+continued goes last x = if goes then record x { before = behind_operator last x.shape; keeps = names_method last } else x
+
 -- the string that goes on behind a `}`, if that ends an interpolation
 abbrev pub string_behind : ℕ → Option (Option ℕ) → Option Opened
 string_behind end None = None
@@ -107,6 +107,7 @@ entered x s =
     let is_bar = same_shape x.shape shape.Pipe in
     record s {
       look = record { before = x.before; is_blank = false; is_fresh = false };
+      last = x.before;
       keeps = x.keeps || (is_bar && s.has_bars);
       has_bars = (if is_bar then not s.has_bars && is_opener s.look.before else s.has_bars);
     }
@@ -114,7 +115,9 @@ entered x s =
 -- the state behind a token at the place `at`, with which the text `z` begins
 unfoldable pub accepted : Lexeme → ℕ → List ℕ → State → State
 accepted x at z s =
-    nested x.shape (at + x.len) (entered x (pushed (kind_of x.shape (words_of x.shape x.len z)) at (at + x.len) (joined (continues x.shape (behind x.len z)) s)))
+    let goes = continues x.shape (behind x.len z) in
+    let end = at + x.len in
+    nested x.shape end (entered (continued goes s.last x) (pushed (kind_of x.shape (words_of x.shape x.len z)) at end (joined goes s)))
 
 abbrev pub blanked : Bool → State → State
 blanked is_fresh s = record s { look = record { before = s.look.before; is_blank = true; is_fresh = is_fresh } }
@@ -139,7 +142,8 @@ code_step at z s =
 -- behind a string, which is an operand's end, or behind its `#{`
 abbrev pub left : Bool → State → State
 left is_end s =
-    record s { string = None; look = record { before = (if is_end then before.Operand else before.Plain); is_blank = false; is_fresh = false }; keeps = true }
+    let b : Before = if is_end then before.Operand else before.Plain in
+    record s { string = None; look = record { before = b; is_blank = false; is_fresh = false }; last = b; keeps = true }
 
 -- Behind a piece that ends by the quote: the string must not be touched by one `:`.
 abbrev pub quoted : Opened → ℕ → ℕ → List ℕ → State → Result (ℕ × State) LexEnd
@@ -192,6 +196,7 @@ START =
       nesting = [];
       string = None;
       look = record { before = before.Plain; is_blank = false; is_fresh = true };
+      last = before.Plain;
       keeps = false;
       has_bars = false;
     }

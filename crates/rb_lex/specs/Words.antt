@@ -3,7 +3,7 @@ use Rattle.std.specs.Prelude.{ℕ, ◌+◌, Bool, not, ◌||◌, ◌&&◌, ◌==
 use Rattle.rb_lex.specs.Chars.{run_len, is_upper, begins_name}
 use Rattle.rb_lex.specs.declared.chars.Set.TheVariants as set
 use Rattle.rb_lex.specs.declared.word.Word.{Word}
-use Rattle.rb_lex.specs.declared.word.Word.TheVariants.{Free, Keyword, Foreign}
+use Rattle.rb_lex.specs.declared.word.Word.TheVariants.{Free}
 use Rattle.rb_lex.specs.declared.word.TheConstants.{TWO, THREE, FOUR, FIVE, SIX, EIGHT, TWELVE}
 
 -- what a table says of a word

@@ -78,7 +78,7 @@ pub fn is_operand_end(before: Before) -> bool
     }
 }
 
-fn names_method(before: Before) -> bool
+pub fn names_method(before: Before) -> bool
     ensures { result ≡ spec.names_method before }
 {
     match before {
@@ -328,7 +328,7 @@ fn is_bad(look: Look, shape: Shape, rest: &[u8]) -> bool
         && (shape.is(Shape::OpenParen) || (is_ambiguous(shape) && !is_spaced(rest)))
 }
 
-fn behind_operator(before: Before, shape: Shape) -> Before
+pub fn behind_operator(before: Before, shape: Shape) -> Before
     ensures { result ≡ spec.behind_operator before shape }
 {
     if is_closing(shape) {

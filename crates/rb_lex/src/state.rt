@@ -9,7 +9,7 @@ ghost use Rattle.rb_lex.specs.Lexed.{Gives, IsNoMemory};
 
 use crate::LexEnd;
 use crate::chars::{behind, byte, is_letter};
-use crate::cut::{Before, Cut, Lexeme, Look, cut_of, is_opener};
+use crate::cut::{Before, Cut, Lexeme, Look, behind_operator, cut_of, is_opener, names_method};
 use crate::piece::{Stop, is_touched, piece_of};
 use rb_tree::token::{Shape, Token, TokenKind};
 use srb_terms::{Items, NoMemory, Span, Words};
@@ -35,6 +35,8 @@ pub struct State {
     /// The string in which the place is.
     pub string: Option<Opened>,
     pub look: Look,
+    /// What the last token that is no line's end says about the next one.
+    pub last: Before,
     /// Whether a line's end here is a separator.
     pub keeps: bool,
     /// Whether a `|` is open that began block parameters.
@@ -124,6 +126,21 @@ fn continues(shape: Shape, rest: &[u8]) -> bool
     shape.is(Shape::SafeDot) || (shape.is(Shape::Dot) && is_letter(byte(rest, 0)))
 }
 
+/// The token as it stands behind the last token, where it goes on with the line before.
+fn continued(goes: bool, last: Before, lexeme: Lexeme) -> Lexeme
+    ensures { result ≡ spec.continued goes last lexeme }
+{
+    if goes {
+        Lexeme {
+            before: behind_operator(last, lexeme.shape),
+            keeps: names_method(last),
+            ..lexeme
+        }
+    } else {
+        lexeme
+    }
+}
+
 impl State {
     pub fn new(alloc: Global) -> State
         ensures { result ≡ spec.START }
@@ -138,6 +155,7 @@ impl State {
                 is_blank: false,
                 is_fresh: true,
             },
+            last: Before::Plain,
             keeps: false,
             has_bars: false,
         }
@@ -213,6 +231,7 @@ impl State {
             is_blank: false,
             is_fresh: false,
         };
+        self.last = lexeme.before;
     }
 
     #[tactic(auto, unfolding(crate::specs::Lexed::accepted))]
@@ -223,10 +242,12 @@ impl State {
         ensures { Gives (λ _. self.new) result (Ok (spec.accepted lexeme at z.now self.old)) }
     {
         let end = at + lexeme.len as u32;
-        self.join(continues(lexeme.shape, behind(z, lexeme.len)));
+        let goes = continues(lexeme.shape, behind(z, lexeme.len));
+        let entering = continued(goes, self.last, lexeme);
+        self.join(goes);
         let kind = kind_of(alloc, lexeme.shape, words_of(lexeme.shape, lexeme.len, z))?;
         self.push(kind, at, end)?;
-        self.enter(lexeme);
+        self.enter(entering);
         self.nest(lexeme.shape, end)
     }
 
@@ -267,16 +288,18 @@ impl State {
     fn leave(&mut self, is_end: bool)
         ensures { self.new ≡ spec.left is_end self.old }
     {
+        let before = if is_end {
+            Before::Operand
+        } else {
+            Before::Plain
+        };
         self.string = None;
         self.look = Look {
-            before: if is_end {
-                Before::Operand
-            } else {
-                Before::Plain
-            },
+            before,
             is_blank: false,
             is_fresh: false,
         };
+        self.last = before;
         self.keeps = true;
     }
 

@@ -228,6 +228,7 @@ fn line_ends(rt: HostRuntime) -> Result<(), Fail> {
             ("a\n.5", "Identifier a; Separator ; Dot ; Whole 5; "),
             ("a\n..b", "outside 2"),
             ("a;\n.b", "Identifier a; Separator ; Dot ; Identifier b; "),
+            ("def\n&.\nb", "Def ; SafeDot ; Separator ; Identifier b; "),
             (
                 "a\\\nb\\\r\nc",
                 "Identifier a; Identifier b; Identifier c; ",

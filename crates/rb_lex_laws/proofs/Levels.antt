@@ -9,7 +9,7 @@ use Rattle.rb_lex.specs.declared.chars.Set.TheVariants as set
 use Rattle.rb_lex_laws.specs.Levels.{word_of_level, AreBlank, GivenLevelsAreFound}
 use Rattle.rb_lex_laws.proofs.Longest.{and-left, and-right, run-ends}
 
-drop-front : (a z : List ℕ) → drop (length a) (a ++ z) ≡ z
+pub drop-front : (a z : List ℕ) → drop (length a) (a ++ z) ≡ z
 drop-front [] z = refl
 drop-front (c ∷ a) z = drop-front a z
 

@@ -23,7 +23,7 @@ and-right true b h = h
 and-right false b h = absurd (cc)
 
 -- a run goes at least as far as all its characters are of the set
-run-all : (s : Set) (w rest : List ℕ) → list_all (is_in s) w ≡ true → length w ≤ run_len s (w ++ rest)
+pub run-all : (s : Set) (w rest : List ℕ) → list_all (is_in s) w ≡ true → length w ≤ run_len s (w ++ rest)
 run-all s [] rest h = omega arith
 run-all s (c ∷ w) rest h =
     let here = and-left (is_in s c) (list_all (is_in s) w) h in
@@ -40,30 +40,30 @@ run-ends s (d ∷ w) c rest h ends =
     let e : 1 + run_len s (w ++ c ∷ rest) ≡ suc (length w) = omega arith in
     ap (λ t. cond t (1 + run_len s (w ++ c ∷ rest)) 0) here ∙ e
 
-upper-in : (c : ℕ) → is_upper c ≡ true → is_in set.Word c ≡ true
+pub upper-in : (c : ℕ) → is_upper c ≡ true → is_in set.Word c ≡ true
 upper-in c h = grind (arith, nat_tests, common_steps)
 
-lower-in : (c : ℕ) → begins_name c ≡ true → is_in set.Word c ≡ true
+pub lower-in : (c : ℕ) → begins_name c ≡ true → is_in set.Word c ≡ true
 lower-in c h = grind (arith, nat_tests, common_steps)
 
-named-all : (first : ℕ → Bool) (w : List ℕ) → ((c : ℕ) → first c ≡ true → is_in set.Word c ≡ true) → IsNamed first w → list_all (is_in set.Word) w ≡ true
+pub named-all : (first : ℕ → Bool) (w : List ℕ) → ((c : ℕ) → first c ≡ true → is_in set.Word c ≡ true) → IsNamed first w → list_all (is_in set.Word) w ≡ true
 named-all first [] inside h = refl
 named-all first (c ∷ w) inside h = ap (λ t. t && list_all (is_in set.Word) w) (inside c h.0) ∙ h.1
 
 pub constants-longest : ConstantsAreLongest
 constants-longest w rest h = run-all set.Word w rest (named-all is_upper w upper-in h)
 
-at-seam : (w : List ℕ) (m : ℕ) (rest : List ℕ) → slice_index (w ++ m ∷ rest) (length w) ≡ m
+pub at-seam : (w : List ℕ) (m : ℕ) (rest : List ℕ) → slice_index (w ++ m ∷ rest) (length w) ≡ m
 at-seam [] m rest = refl
 at-seam (c ∷ w) m rest = at-seam w m rest
 
-behind-seam : (w : List ℕ) (m : ℕ) (rest : List ℕ) → slice_index (w ++ m ∷ rest) (length w + 1) ≡ slice_index rest 0
+pub behind-seam : (w : List ℕ) (m : ℕ) (rest : List ℕ) → slice_index (w ++ m ∷ rest) (length w + 1) ≡ slice_index rest 0
 behind-seam [] m rest = refl
 behind-seam (c ∷ w) m rest =
     let e : suc (length w) + 1 ≡ suc (length w + 1) = omega arith in
     ap (slice_index (c ∷ w ++ m ∷ rest)) e ∙ behind-seam w m rest
 
-no-equals : (rest : List ℕ) → ¬ Begins 61 rest → (slice_index rest 0 == 61) ≡ false
+pub no-equals : (rest : List ℕ) → ¬ Begins 61 rest → (slice_index rest 0 == 61) ≡ false
 no-equals [] h = refl
 no-equals (d ∷ rest) h = by-test (d == 61) refl
   where
@@ -79,7 +79,7 @@ plain-len z =
       | false ↦ omega arith
     ]
 
-marked-len : (w : List ℕ) (m : ℕ) (rest : List ℕ) → list_all (is_in set.Word) w ≡ true → is_in set.Word m ≡ false → (m == 63 || m == 33) ≡ true → ¬ Begins 61 rest → identifier_len (w ++ m ∷ rest) ≡ length w + 1
+pub marked-len : (w : List ℕ) (m : ℕ) (rest : List ℕ) → list_all (is_in set.Word) w ≡ true → is_in set.Word m ≡ false → (m == 63 || m == 33) ≡ true → ¬ Begins 61 rest → identifier_len (w ++ m ∷ rest) ≡ length w + 1
 marked-len w m rest all out mark free =
     let z = w ++ m ∷ rest in
     let P : ℕ → ℕ = λ end. if ((slice_index z end == 63 || slice_index z end == 33) && not (slice_index z (end + 1) == 61)) then end + 1 else end in

@@ -5,4 +5,5 @@ pub mod Longest
 pub mod Numbers
 pub mod Operators
 pub mod Spellings
+pub mod Tokens
 pub mod Words

@@ -4,10 +4,11 @@
 //! the tokens before a place say about it are definitions of their own. Nothing of them says how tokens are found.
 #![tactic(auto)]
 
-ghost use Rattle.rb_lex_laws.specs.Levels.{GivenLevelsAreFound};
+ghost use Rattle.rb_lex_laws.specs.Levels.{GivenLevelsAreFound, LevelIsThatOfTheText};
 ghost use Rattle.rb_lex_laws.specs.Longest.{IdentifiersAreLongest, ConstantsAreLongest, DigitsAreLongest};
 ghost use Rattle.rb_lex_laws.specs.Numbers.{FitsAreSmall};
 ghost use Rattle.rb_lex_laws.specs.Operators.{OperatorsAreFound, MethodOperatorsAreFound, ForeignOperatorsAreFound};
+ghost use Rattle.rb_lex_laws.specs.Tokens.{TokensAreThoseOfTheText, OutsideIsThatOfTheText, BadIsThatOfTheText, EachTextIsTold, TokensAreOne, NoneIsRefused, PlaceIsOne, TokensStandAtCharacters, RefusedPlacesAreStarts};
 ghost use Rattle.rb_lex_laws.specs.Words.{KeywordsAreKnown, ForeignWordsAreKnown, KnownKeywordsAreListed, KnownForeignWordsAreListed};
 
 /// The lexer's test of a whole number passes exactly where the number is less than 2 to the 128th.
@@ -44,4 +45,32 @@ pub fn runs_are_longest()
 /// A comment that gives a level in the words of the description is found to give it.
 pub fn given_levels_are_found()
     ensures { GivenLevelsAreFound }
+{}
+
+/// The lexer answers a list of tokens exactly where the text has it, and a refused place of each kind exactly where the text
+/// has it.
+pub fn answers_are_those_of_the_text()
+    ensures tokens { TokensAreThoseOfTheText }
+    ensures outside { OutsideIsThatOfTheText }
+    ensures bad { BadIsThatOfTheText }
+{}
+
+/// Each text has one list of tokens, or one refused place of one kind.
+pub fn each_text_has_one_answer()
+    ensures some { EachTextIsTold }
+    ensures tokens { TokensAreOne }
+    ensures neither { NoneIsRefused }
+    ensures place { PlaceIsOne }
+{}
+
+/// Tokens stand one behind the other, and each begins and ends where a character begins or the text ends. So does each refused
+/// place.
+pub fn tokens_stand_at_characters()
+    ensures tokens { TokensStandAtCharacters }
+    ensures places { RefusedPlacesAreStarts }
+{}
+
+/// The level that the lexer answers is the one that the text asks for.
+pub fn level_is_that_of_the_text()
+    ensures { LevelIsThatOfTheText }
 {}
