@@ -1,0 +1,120 @@
+-- What a token does to the weight, by what stands before it.
+use Rattle.std.specs.Prelude.{Bool, true, false, ◌||◌, if◌then◌else◌}
+use Rattle.rb_weight.specs.declared.sort.Sort.{Sort}
+use Rattle.rb_weight.specs.declared.sort.Sort.TheVariants as sort
+use Rattle.rb_weight.specs.declared.effect.Before.{Before}
+use Rattle.rb_weight.specs.declared.effect.Before.TheVariants as before
+use Rattle.rb_weight.specs.declared.effect.Level.{Level}
+use Rattle.rb_weight.specs.declared.effect.Level.TheVariants as level
+use Rattle.rb_weight.specs.declared.effect.Effect.{Effect}
+use Rattle.rb_weight.specs.declared.effect.Effect.TheVariants as effect
+
+abbrev pub is_operand : Before → Bool
+is_operand before.Operand = true
+is_operand _ = false
+
+abbrev pub is_block : Before → Bool
+is_block before.Block = true
+is_block _ = false
+
+abbrev pub is_bars : Before → Bool
+is_bars before.Bars = true
+is_bars _ = false
+
+abbrev pub is_name : Before → Bool
+is_name before.Name = true
+is_name _ = false
+
+abbrev pub is_condition : Level → Bool
+is_condition level.Condition = true
+is_condition _ = false
+
+abbrev pub is_parameters : Level → Bool
+is_parameters level.Parameters = true
+is_parameters _ = false
+
+-- an `if`, `unless`, `while` or `until` counts as a modifier, or opens a level
+abbrev pub conditional : Bool → Level → Effect
+conditional is_modifier l = if is_modifier then effect.Counts else effect.Opens l
+
+-- `(`
+abbrev pub paren : Before → Effect
+paren b = effect.Opens (if is_name b then level.Parameters else level.Plain)
+
+-- `do`, which opens no level where it is that of a `while` or `until`
+abbrev pub do_word : Level → Effect
+do_word l = if is_condition l then effect.Enters else effect.Opens level.Plain
+
+-- `|`, which is no operator around block parameters
+abbrev pub pipe : Before → Effect
+pipe b = if is_block b || is_bars b then effect.Nothing else effect.Counts
+
+-- what a token does, by the token before it and the innermost open level
+unfoldable pub effect_of : Before → Level → Sort → Effect
+effect_of b l sort.Operand = effect.Nothing
+effect_of b l sort.SelfWord = effect.Nothing
+effect_of b l sort.Other = effect.Nothing
+effect_of b l sort.Close = effect.Closes
+effect_of b l sort.Open = effect.Opens level.Plain
+effect_of b l sort.Brace = effect.Opens level.Plain
+effect_of b l sort.Def = effect.Opens level.Plain
+effect_of b l sort.Paren = paren b
+effect_of b l sort.Do = do_word l
+effect_of b l sort.Choice = conditional (is_operand b) level.Plain
+effect_of b l sort.Loop = conditional (is_operand b) level.Condition
+effect_of b l sort.Separator = effect.Separates
+effect_of b l sort.Divider = effect.Divides
+effect_of b l sort.Operator = effect.Counts
+effect_of b l sort.Dot = effect.Counts
+effect_of b l sort.Assign = effect.Counts
+effect_of b l sort.Pipe = pipe b
+
+-- What a token says about the next one, outside of a method's head and of block parameters. An `if` is a modifier behind an
+-- operand's end and behind `return`, `break` and `next`, but not behind the `)` that closes the parameters of a method.
+unfoldable pub behind_plain : Before → Level → Sort → Before
+behind_plain b l sort.Operand = before.Operand
+behind_plain b l sort.SelfWord = before.Operand
+behind_plain b l sort.Close = (if is_parameters l then before.Plain else before.Operand)
+behind_plain b l sort.Brace = before.Block
+behind_plain b l sort.Do = before.Block
+behind_plain b l sort.Def = before.Def
+behind_plain b l sort.Pipe = (if is_block b then before.Bars else before.Plain)
+behind_plain b l _ = before.Plain
+
+-- behind `def`: `self`, or a method's name
+abbrev pub behind_def : Sort → Before
+behind_def sort.SelfWord = before.DefSelf
+behind_def _ = before.Name
+
+-- behind the `self` of `def self`
+abbrev pub behind_self : Sort → Before
+behind_self sort.Dot = before.DefDot
+behind_self _ = before.Plain
+
+-- in block parameters, which the next `|` closes
+abbrev pub behind_bar : Sort → Before
+behind_bar sort.Pipe = before.Plain
+behind_bar _ = before.Bars
+
+abbrev pub is_assign : Sort → Bool
+is_assign sort.Assign = true
+is_assign _ = false
+
+-- behind a method's name, of which a `=` is a part
+abbrev pub behind_name : Level → Sort → Before
+behind_name l s = if is_assign s then before.Name else behind_plain before.Name l s
+
+-- what a token says about the next one
+unfoldable pub behind : Before → Level → Sort → Before
+behind before.Def l s = behind_def s
+behind before.DefSelf l s = behind_self s
+behind before.DefDot l s = before.Name
+behind before.Name l s = behind_name l s
+behind before.Bars l s = behind_bar s
+behind before.Plain l s = behind_plain before.Plain l s
+behind before.Operand l s = behind_plain before.Operand l s
+behind before.Block l s = behind_plain before.Block l s
+
+-- a separator ends the condition of a `while` or `until`
+abbrev pub separated : Level → Level
+separated l = if is_condition l then level.Plain else l

@@ -1,0 +1,4 @@
+pub mod Effects
+pub mod Scans
+pub mod Sorts
+pub mod Weights
