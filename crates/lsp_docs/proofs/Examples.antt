@@ -148,11 +148,11 @@ goes_away = refl
 
 placed_behind_pair : placed (record { root = [] }) smile (record { span = record { start = 5; end = 6 }; number = 5002; text = [] })
     ≡ record { start = at 0 3; end = at 0 4; number = 5002; text = [] }
-unfolding chars
+unfolding chars is_utf8 encode
 placed_behind_pair = refl
 
 -- the start of a file has a position also where the file is no text
 placed_at_start : placed (record { root = [] }) (255 ∷ []) (record { span = record { start = 0; end = 0 }; number = 9009; text = [] })
     ≡ record { start = at 0 0; end = at 0 0; number = 9009; text = [] }
-unfolding chars
+unfolding chars is_utf8
 placed_at_start = refl

@@ -1,3 +1,9 @@
 pub mod PathLemmas
 pub mod UriLemmas
 pub mod Examples
+pub mod RowLemmas
+pub mod RowsHold
+pub mod PlaceLemmas
+pub mod ApplyLemmas
+pub mod TextLemmas
+pub mod RootLemmas

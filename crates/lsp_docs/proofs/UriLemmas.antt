@@ -1,16 +1,20 @@
 -- The laws of URIs: a path is read back from the URI that is written for it, and no two paths have one URI.
-use Rattle.std.proofs.Common.{◌≡◌, ◌≢◌, ℕ, ◌+◌, ◌*◌, ◌/◌, ◌%◌, ◌<◌, Bool, true, false, List, [], ◌∷◌, ◌++◌, length, take, drop, refl, sym, ap, ap₂, ◌∙◌, subst, ⊎_elim, ltb, arith, append_assoc}
-use Rattle.std.specs.Prelude.{Some, if◌then◌else◌, IsUtf8, ⊤}
+use Rattle.std.proofs.Common.{◌≡◌, ◌≢◌, ℕ, zero, suc, ◌+◌, ◌*◌, ◌/◌, ◌%◌, ◌<◌, ◌≤◌, Bool, true, false, not, ◌&&◌, ◌||◌, ◌==◌, List, [], ◌∷◌, ◌++◌, length, take, drop, refl, sym, ap, ap₂, ◌∙◌, subst, ⊎_elim, ltb, arith, append_assoc}
+use Rattle.std.specs.Prelude.{Option, Some, None, if◌then◌else◌, IsUtf8, ⊤}
+use Rattle.std.specs.Int.{bit_at}
+use Rattle.std.specs.List.{flat_map}
 use Rattle.std.specs.Fmt.{digit_glyph}
 use Rattle.std.specs.Char.{digit_value, is_digit}
 use Rattle.std.specs.Str.{is_utf8}
-use Rattle.std.proofs.lemmas.Bool.{cond-true, cond-false, cond_both, ltb-true, and_parts}
+use Rattle.std.proofs.lemmas.Bool.{cond-true, cond-false, cond_both, ltb-true, le-ltb, cases_lt, and_parts}
 use Rattle.std.proofs.lemmas.Bool.Decides.{nat_tests}
 use lib.Utf8.{scalar, scalars, encode, encodes, scalar_cases}
 use Rattle.std.proofs.lemmas.Str.{IsUtf8-append, IsUtf8-from_is_utf8, is_utf8-from_IsUtf8}
 use Rattle.std.specs.Str.{chars}
 use Rattle.percent_encoding.proofs.PercentLemmas.{percent_decode-nil}
-use Rattle.percent_encoding.specs.Percent.{percent_decode, is_escape}
+use Rattle.percent_encoding.specs.AsciiSet.{should_percent_encode}
+use Rattle.percent_encoding.specs.Percent.{percent_decode, percent_encode, percent_encode_byte, encode_byte, is_escape}
+use Rattle.lsp_docs.specs.declared.uris.TheConstants.{ESCAPED}
 use Rattle.lsp_docs.specs.Paths.{Path}
 use Rattle.lsp_docs.specs.Uris.{SLASH, is_plain, escaped, uri_below, ends_in_rb, ruby_behind, path_below}
 use Rattle.lsp_docs.proofs.PathLemmas.{self_path}
@@ -195,7 +199,7 @@ AreBytes-encodes (c ∷ cs) s =
     let parts = and_parts (scalar c) (scalars cs) s in
     AreBytes-append (encode c) (encodes cs) (AreBytes-encode c parts.0) (AreBytes-encodes cs parts.1)
 
-AreBytes-IsUtf8 : (bs : List ℕ) → IsUtf8 bs → AreBytes bs
+pub AreBytes-IsUtf8 : (bs : List ℕ) → IsUtf8 bs → AreBytes bs
 AreBytes-IsUtf8 bs text = subst AreBytes text.1.1 (AreBytes-encodes text.0 text.1.0)
 
 slash_text : IsUtf8 (SLASH ∷ [])
@@ -209,3 +213,83 @@ path_of_uri root f front text rb =
     IsUtf8-append _ _ (IsUtf8-append _ _ front slash_text) text in
     rw (decode_uri root f (AreBytes-IsUtf8 f text))
     (cond-true _ _ _ (is_utf8-from_IsUtf8 _ whole) ∙ ruby_behind_front (percent_decode root ++ SLASH ∷ []) f rb)
+
+-- ---- what is escaped
+-- one of the two holds
+abbrev differ : Bool → Bool → Bool
+differ true false = true
+differ false true = true
+differ a b = false
+
+differ_not : (a b : Bool) → differ a b ≡ true → a ≡ not b
+differ_not true true d = cc
+differ_not true false d = refl
+differ_not false true d = refl
+differ_not false false d = cc
+
+abbrev differ_below : ℕ → Bool
+differ_below zero = true
+differ_below (suc n) = differ (should_percent_encode ESCAPED n) (is_plain n) && differ_below n
+
+ascii_checked : differ_below 128 ≡ true
+unfolding should_percent_encode
+ascii_checked = refl
+
+below_checked : (n b : ℕ) → b < n → differ_below n ≡ true → differ (should_percent_encode ESCAPED b) (is_plain b) ≡ true
+below_checked zero b less all = absurd (omega (arith, less))
+below_checked (suc n) b less all =
+    let parts = and_parts (differ (should_percent_encode ESCAPED n) (is_plain n)) (differ_below n) all in
+    ⊎_elim (λ (low : b < n). below_checked n b low parts.1)
+    (λ (high : n ≤ b). let same : b ≡ n = omega (arith, less, high) in subst (λ k. differ (should_percent_encode ESCAPED k) (is_plain k) ≡ true) (sym same) parts.0)
+    (cases_lt b n)
+
+high_escaped : (b : ℕ) → 128 ≤ b → should_percent_encode ESCAPED b ≡ true
+unfolding should_percent_encode
+high_escaped b high = ap (λ t. not t || (bit_at ESCAPED.mask b == 1)) (le-ltb b 128 high)
+
+high_plain : (b : ℕ) → 128 ≤ b → is_plain b ≡ false
+high_plain b high = grind (arith, nat_tests)
+
+escapes_others : (b : ℕ) → should_percent_encode ESCAPED b ≡ not (is_plain b)
+escapes_others b =
+    ⊎_elim (λ (low : b < 128). differ_not _ _ (below_checked 128 b low ascii_checked))
+    (λ (high : 128 ≤ b). high_escaped b high ∙ sym (ap not (high_plain b high)))
+    (cases_lt b 128)
+
+byte_escaped : (b : ℕ) → b < 256 → percent_encode_byte b ≡ 37 ∷ digit_glyph true (b / 16) ∷ digit_glyph true (b % 16) ∷ []
+unfolding percent_encode_byte
+byte_escaped b small =
+    let high : b / 16 % 16 ≡ b / 16 = omega (arith, small) in
+    ap (λ n. 37 ∷ digit_glyph true n ∷ digit_glyph true (b % 16) ∷ []) high
+
+pub percent_encode_is : (f : Path) → AreBytes f → percent_encode ESCAPED f ≡ escaped f
+unfolding percent_encode
+percent_encode_is [] small = refl
+percent_encode_is (b ∷ bs) small = by (is_plain b) refl (percent_encode_is bs small.1)
+  where
+    by : (p : Bool) → is_plain b ≡ p → flat_map (encode_byte ESCAPED) bs ≡ escaped bs
+        → encode_byte ESCAPED b ++ flat_map (encode_byte ESCAPED) bs
+        ≡ (if p then b ∷ escaped bs else 37 ∷ digit_glyph true (b / 16) ∷ digit_glyph true (b % 16) ∷ escaped bs)
+    by true p rest =
+        ap (λ t. (if t then percent_encode_byte b else b ∷ []) ++ flat_map (encode_byte ESCAPED) bs) (escapes_others b ∙ ap not p)
+        ∙ ap (λ t. b ∷ t) rest
+    by false p rest =
+        ap (λ t. (if t then percent_encode_byte b else b ∷ []) ++ flat_map (encode_byte ESCAPED) bs) (escapes_others b ∙ ap not p)
+        ∙ ap (λ t. t ++ flat_map (encode_byte ESCAPED) bs) (byte_escaped b small.0)
+        ∙ ap (λ t. 37 ∷ digit_glyph true (b / 16) ∷ digit_glyph true (b % 16) ∷ t) rest
+
+-- ---- the test of a URI
+no_text : (b : Bool) (bytes : List ℕ) → is_utf8 bytes ≡ b → ¬ (IsUtf8 bytes) → b ≡ false
+no_text true bytes is not_text = absurd (not_text (IsUtf8-from_is_utf8 bytes is))
+no_text false bytes is not_text = refl
+
+abbrev path_if_text : List ℕ → List ℕ → Bool → Option Path
+path_if_text front text b = if b then ruby_behind front text else None
+
+pub path_none : (root uri : List ℕ) → ¬ (IsUtf8 (percent_decode uri)) → path_below root uri ≡ None
+path_none root uri not_text =
+    ap (path_if_text (percent_decode root ++ SLASH ∷ []) (percent_decode uri)) (no_text (is_utf8 (percent_decode uri)) (percent_decode uri) refl not_text)
+
+pub path_some : (root uri : List ℕ) → IsUtf8 (percent_decode uri) → path_below root uri ≡ ruby_behind (percent_decode root ++ SLASH ∷ []) (percent_decode uri)
+path_some root uri text =
+    ap (path_if_text (percent_decode root ++ SLASH ∷ []) (percent_decode uri)) (is_utf8-from_IsUtf8 (percent_decode uri) text)

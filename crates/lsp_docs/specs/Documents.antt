@@ -1,5 +1,6 @@
 -- Documents: the project as the client's messages change it, which paths are open, and what was saved.
-use Rattle.std.specs.Prelude.{ℕ, not, ◌&&◌, nat_lt, nat_le, List, [], ◌∷◌, length, chars, encode_utf8_all, Option, Some, None, unwrap_or, is_some, Result, Ok, Err, if◌then◌else◌}
+use Rattle.std.specs.Prelude.{◌≡◌, ◌≢◌, ℕ, ◌≤◌, true, false, not, ◌&&◌, nat_lt, nat_le, List, [], ◌∷◌, length, chars, encode_utf8_all, Option, Some, None, unwrap_or, is_some, Result, Ok, Err, if◌then◌else◌}
+use Rattle.std.specs.Str.{is_utf8}
 use Rattle.srb_text.specs.Positions.{len_utf16, offset_of, position_of}
 use Rattle.srb_text.specs.Edits.{edited}
 use Rattle.srb_text.specs.declared.Pos.{Pos}
@@ -8,9 +9,10 @@ use Rattle.lsp_msg.specs.declared.change.Change.{Change}
 use Rattle.lsp_msg.specs.declared.placed.Placed.{Placed}
 use Rattle.lsp_msg.specs.declared.msg.Msg.{Msg}
 use Rattle.lsp_msg.specs.declared.msg.Msg.TheVariants.{Opened, Changed, Saved, Closed}
+use Rattle.lsp_docs.specs.declared.applied.Applied.{Applied}
 use Rattle.lsp_docs.specs.declared.doc_end.DocEnd.{DocEnd}
-use Rattle.lsp_docs.specs.declared.doc_end.DocEnd.TheVariants.{Foreign, Unknown, TooMany, Backwards, TooBig}
-use Rattle.srb_terms.specs.Projects.{bytes_at, put_file}
+use Rattle.lsp_docs.specs.declared.doc_end.DocEnd.TheVariants.{Foreign, Unknown, TooMany, Backwards, TooBig, NoMemory}
+use Rattle.srb_terms.specs.Projects.{IsProject, bytes_at, put_file}
 use Rattle.lsp_docs.specs.Paths.{Path, Bytes, has, with_path, without_path}
 use Rattle.lsp_docs.specs.Projects.{Project, Edit, after_edit, total_bytes}
 use Rattle.lsp_docs.specs.Uris.{root_of, uri_below, path_below}
@@ -36,11 +38,15 @@ uri_of agreed f = uri_below agreed.root f
 abbrev pub path_of : Agreed → List ℕ → Option Path
 path_of agreed uri = path_below agreed.root uri
 
+-- the characters of a file; bytes that are no text have none
+abbrev pub text_of : Bytes → List ℕ
+text_of bytes = if is_utf8 bytes then chars bytes else []
+
 -- an error of a file with these bytes, its place turned into positions
 abbrev pub placed : Agreed → Bytes → Diag → Placed
 placed agreed bytes d = record {
-  start = position_of (weight agreed) (chars bytes) d.span.start;
-  end = position_of (weight agreed) (chars bytes) d.span.end;
+  start = position_of (weight agreed) (text_of bytes) d.span.start;
+  end = position_of (weight agreed) (text_of bytes) d.span.end;
   number = d.number;
   text = d.text;
 }
@@ -114,25 +120,62 @@ changes d f text (c ∷ cs) = elim (after_change d.agreed text c) [
   ]
 ]
 
--- what is done with the path that the URI names, or with it where it is open
+-- what is done with the path that the URI names, or with a path where it is open
 abbrev pub where_named : Documents → List ℕ → (Path → Result Deed DocEnd) → Result Deed DocEnd
 where_named d uri deed = elim (path_of d.agreed uri) [
   | None ↦ Err Foreign
   | Some f ↦ deed f
 ]
 
+abbrev pub if_open : Documents → (Path → Result Deed DocEnd) → Path → Result Deed DocEnd
+if_open d deed f = if has f d.opened then deed f else Err Unknown
+
 abbrev pub where_open : Documents → List ℕ → (Path → Result Deed DocEnd) → Result Deed DocEnd
-where_open d uri deed = where_named d uri (λ f. if has f d.opened then deed f else Err Unknown)
+where_open d uri deed = where_named d uri (if_open d deed)
 
 -- `didClose` brings back the text last loaded or saved, or takes the path out if there is none.
 abbrev pub closes : Documents → Path → Result Deed DocEnd
 closes d f = sized d (record { path = f; now = bytes_at f d.saved }) (without_path f d.opened)
 
+-- `didChange` changes the present text
+abbrev pub changes_now : Documents → List Change → Path → Result Deed DocEnd
+changes_now d list f = changes d f (chars (unwrap_or (bytes_at f d.project) [])) list
+
 -- What a message about a document does, or the first refusal that fits. Other messages have none.
 abbrev pub applied : Documents → Msg → Option (Result Deed DocEnd)
 applied d (Opened uri text) = Some (where_named d uri (opens d text))
-applied d (Changed uri list) =
-    Some (where_open d uri (λ f. changes d f (chars (unwrap_or (bytes_at f d.project) [])) list))
+applied d (Changed uri list) = Some (where_open d uri (changes_now d list))
 applied d (Saved uri) = Some (where_open d uri (λ f. Ok (Saves f)))
 applied d (Closed uri) = Some (where_open d uri (closes d))
 applied d m = None
+
+-- what is told of a deed: its path, and whether it edits
+abbrev pub told_of : Deed → Applied
+told_of (Edits e opened) = record { path = e.path; edit = true }
+told_of (Saves f) = record { path = f; edit = false }
+
+-- The rule's deed is done, and this is told of it.
+pub record IsDoneFor (rule : Result Deed DocEnd) (old new : Documents) (a : Applied) : Type 0 where
+  pub deed : Deed
+  pub accepted : rule ≡ Ok deed
+  pub done : new ≡ after_deed old deed
+  pub told : a ≡ told_of deed
+
+-- The message is accepted: its deed is done, and this is told of it.
+pub record IsAccepted (old : Documents) (m : Msg) (new : Documents) (a : Applied) : Type 0 where
+  pub deed : Deed
+  pub accepted : applied old m ≡ Some (Ok deed)
+  pub done : new ≡ after_deed old deed
+  pub told : a ≡ told_of deed
+
+-- the message is refused for this, or there was no memory
+abbrev pub IsRefused : Documents → Msg → DocEnd → Type 0
+IsRefused d m e = e ≢ NoMemory → applied d m ≡ Some (Err e)
+
+-- What always holds of the documents: paths stand in byte order, each once, and there are no more files and bytes than a
+-- project may have.
+pub record AreDocuments (d : Documents) : Type 0 where
+  pub project : IsProject d.project
+  pub saved : IsProject d.saved
+  pub files : length d.project ≤ MOST_FILES
+  pub bytes : total_bytes d.project ≤ MOST_BYTES

@@ -1,3 +1,7 @@
+ghost use Rattle.std.specs.Prelude.{◌≡◌};
+
+use srb_terms::NoMemory;
+
 /// Why a message about a document does nothing.
 #[derive(Clone, Copy, Debug, PartialEq, Eq)]
 pub enum DocEnd {
@@ -13,4 +17,14 @@ pub enum DocEnd {
     TooBig { bytes: u64 },
     /// There was no memory.
     NoMemory,
+}
+
+impl From<NoMemory> for DocEnd {
+    ghost use Rattle.lsp_docs.specs.declared.doc_end.DocEnd.TheVariants as end;
+
+    ghost from_gives = { λ _ e. e ≡ end.NoMemory };
+
+    fn from(_: NoMemory) -> DocEnd {
+        DocEnd::NoMemory
+    }
 }

@@ -7,8 +7,19 @@
 #![tactic(auto)]
 
 mod applied;
+mod apply;
+mod changes;
 mod doc_end;
+mod docs;
 pub mod law;
+mod places;
+mod row;
+mod rows;
+#[cfg(test)]
+mod tests;
+mod texts;
+mod uris;
 
 pub use applied::Applied;
 pub use doc_end::DocEnd;
+pub use docs::Docs;

@@ -1,0 +1,185 @@
+//! The documents of a session, and what each message does to them.
+ghost use Rattle.std.specs.Prelude.{◌≡◌, ◌≢◌, ◌==◌, ◌<◌, ◌≤◌, List, [], length, map, slice_get, unwrap_or, IsSome, IfSome, Some, None, Ok, Err, IfOk, IfErr, OnOk, OnErr};
+ghost use Rattle.std.specs.Option.{option_copied};
+ghost use Rattle.srb_terms.specs.Projects.{bytes_at};
+ghost use Rattle.lsp_docs.specs.declared.doc_end.DocEnd.TheVariants.{Foreign, NoMemory};
+ghost use Rattle.lsp_docs.specs.Projects.{paths_of, total_bytes};
+ghost use Rattle.lsp_docs.specs.Documents.{MOST_FILES, MOST_BYTES, AreDocuments, IsAccepted, IsDoneFor, IsRefused, Saves, agreed_by, applied, changes_now, closes, no_documents, opens, path_of, placed, uri_of, where_named, where_open};
+
+use crate::rows::Rows;
+use crate::{Applied, DocEnd, apply, places, texts, uris};
+use lsp_msg::{Change, Msg, Placed};
+use srb_terms::{Diag, Items, Name, NoMemory, Project, Words};
+use std::alloc::Global;
+use std::marker::Model;
+
+/// The documents of a session: the files of the project with their present texts, which of them are open, and what was
+/// saved. A contract sees the record `Documents`.
+#[derive(Drop)]
+pub struct Docs {
+    root: Words,
+    rows: Rows,
+}
+
+impl Model for Docs {
+    ghost use Rattle.lsp_docs.specs.Documents.{Documents};
+    ghost use Rattle.lsp_docs.specs.Rows.{documents_of};
+
+    ghost Value = { Documents };
+
+    ghost view = { λ d. documents_of (record { root = d.root }) d.rows };
+}
+
+impl Docs {
+    /// The documents before any message. The project has at most 4,096 files, and their texts together at most
+    /// 16,777,216 bytes.
+    pub fn new(alloc: Global, files: Project) -> Result<Docs, NoMemory>
+        requires count { length files ≤ MOST_FILES }
+        requires bytes { total_bytes files ≤ MOST_BYTES }
+        ensures { IfOk result (λ d. d ≡ no_documents files) }
+    {
+        Ok(Docs {
+            root: uris::root_of(alloc, None)?,
+            rows: Rows::new(alloc, files)?,
+        })
+    }
+
+    /// Settles the root. After an error the documents are as they were.
+    pub fn set_root(&mut self, alloc: Global, root: Option<&Words>) -> Result<(), NoMemory>
+        ensures ok { OnOk result (self.new ≡ record self.old { agreed = agreed_by (option_copied root.entry) [] }) }
+        ensures err { OnErr result (self.new ≡ self.old) }
+    {
+        self.root = uris::root_of(alloc, root)?;
+        Ok(())
+    }
+
+    /// Does what a message about a document does, or says why it is refused: the first refusal that fits. After an
+    /// error the documents are as they were.
+    pub fn apply(&mut self, alloc: Global, m: &Msg) -> Result<Applied, DocEnd>
+        requires { IsSome (applied self.old m.now) }
+        ensures accepted { IfOk result (IsAccepted self.old m.now self.new) }
+        ensures refused { IfErr result (IsRefused self.old m.now) }
+        ensures unchanged { OnErr result (self.new ≡ self.old) }
+    {
+        match m {
+            Msg::Opened { uri, text } => self.open(alloc, uri, text),
+            Msg::Changed { uri, changes } => self.change(alloc, uri, changes.as_slice()),
+            Msg::Saved { uri } => self.save(alloc, uri),
+            Msg::Closed { uri } => self.close(alloc, uri),
+            _ => unreachable!(),
+        }
+    }
+
+    /// The present bytes of the file at `path`. `None` exactly where the project has no such file.
+    pub fn bytes(&self, path: &Name) -> Option<&[u8]>
+        ensures bytes { option_copied result ≡ bytes_at path.now self.now.project }
+        ensures small { IfSome result (λ bytes. length bytes.now ≤ MOST_BYTES) }
+    {
+        match self.rows.find(path) {
+            Ok(index) => self.rows.as_slice()[index].present(),
+            Err(_) => None,
+        }
+    }
+
+    /// The URI of a path.
+    pub fn uri(&self, alloc: Global, path: &Name) -> Result<Words, NoMemory>
+        ensures { IfOk result (λ uri. uri ≡ uri_of self.now.agreed path.now) }
+    {
+        uris::uri_below(alloc, self.root.as_str(), path)
+    }
+
+    /// The errors of the file at `path`, their places turned into positions. Without such a file its text is empty.
+    pub fn placed(
+        &self,
+        alloc: Global,
+        path: &Name,
+        errors: &[Diag],
+    ) -> Result<Items<Placed>, NoMemory>
+        ensures { IfOk result (λ list. list ≡ map (placed self.now.agreed (unwrap_or (bytes_at path.now self.now.project) [])) errors.now) }
+    {
+        if errors.is_empty() {
+            return Ok(Items::new(alloc));
+        }
+        match self.rows.find_open(path) {
+            Some((_, text)) => places::placed(alloc, text, errors),
+            None => {
+                let text = texts::text_of(alloc, self.bytes(path).unwrap_or(&[]))?;
+                places::placed(alloc, &text, errors)
+            }
+        }
+    }
+
+    /// The number of files of the project.
+    pub fn len(&self) -> usize
+        ensures len { result ≡ length self.now.project }
+        ensures kept { AreDocuments self.now }
+    {
+        self.rows.as_slice().len()
+    }
+
+    /// Whether the project has no file.
+    pub fn is_empty(&self) -> bool
+        ensures { result ≡ (length self.now.project == 0) }
+    {
+        self.len() == 0
+    }
+
+    /// The path of the file at `index`, in byte order of the paths.
+    pub fn path(&self, index: usize) -> &Name
+        requires { index < length self.now.project }
+        ensures { slice_get (paths_of self.now.project) index ≡ Some result.now }
+    {
+        &self.rows.as_slice()[index].path
+    }
+
+    // The path that a URI names.
+    fn named(&self, alloc: Global, uri: &Words) -> Result<Name, DocEnd>
+        ensures named { IfOk result (λ f. path_of self.now.agreed uri.now ≡ Some f) }
+        ensures foreign { IfErr result (λ e. e ≢ NoMemory → (e ≡ Foreign) × (path_of self.now.agreed uri.now ≡ None)) }
+    {
+        match uris::path_below(alloc, self.root.as_str(), uri.as_str())? {
+            Some(path) => Ok(path),
+            None => Err(DocEnd::Foreign),
+        }
+    }
+
+    fn open(&mut self, alloc: Global, uri: &Words, text: &Words) -> Result<Applied, DocEnd>
+        ensures accepted { IfOk result (IsDoneFor (where_named self.old uri.now (opens self.old text.now)) self.old self.new) }
+        ensures refused { IfErr result (λ e. e ≢ NoMemory → where_named self.old uri.now (opens self.old text.now) ≡ Err e) }
+        ensures unchanged { OnErr result (self.new ≡ self.old) }
+    {
+        let path = self.named(alloc, uri)?;
+        apply::open(alloc, &mut self.rows, &path, text)?;
+        Ok(Applied { path, edit: true })
+    }
+
+    fn change(&mut self, alloc: Global, uri: &Words, changes: &[Change]) -> Result<Applied, DocEnd>
+        ensures accepted { IfOk result (IsDoneFor (where_open self.old uri.now (changes_now self.old changes.now)) self.old self.new) }
+        ensures refused { IfErr result (λ e. e ≢ NoMemory → where_open self.old uri.now (changes_now self.old changes.now) ≡ Err e) }
+        ensures unchanged { OnErr result (self.new ≡ self.old) }
+    {
+        let path = self.named(alloc, uri)?;
+        apply::change(alloc, &mut self.rows, &path, changes)?;
+        Ok(Applied { path, edit: true })
+    }
+
+    fn save(&mut self, alloc: Global, uri: &Words) -> Result<Applied, DocEnd>
+        ensures accepted { IfOk result (IsDoneFor (where_open self.old uri.now (λ f. Ok (Saves f))) self.old self.new) }
+        ensures refused { IfErr result (λ e. e ≢ NoMemory → where_open self.old uri.now (λ f. Ok (Saves f)) ≡ Err e) }
+        ensures unchanged { OnErr result (self.new ≡ self.old) }
+    {
+        let path = self.named(alloc, uri)?;
+        apply::save(alloc, &mut self.rows, &path)?;
+        Ok(Applied { path, edit: false })
+    }
+
+    fn close(&mut self, alloc: Global, uri: &Words) -> Result<Applied, DocEnd>
+        ensures accepted { IfOk result (IsDoneFor (where_open self.old uri.now (closes self.old)) self.old self.new) }
+        ensures refused { IfErr result (λ e. e ≢ NoMemory → where_open self.old uri.now (closes self.old) ≡ Err e) }
+        ensures unchanged { OnErr result (self.new ≡ self.old) }
+    {
+        let path = self.named(alloc, uri)?;
+        apply::close(&mut self.rows, &path)?;
+        Ok(Applied { path, edit: true })
+    }
+}

@@ -1,0 +1,40 @@
+//! Errors of a file as a client is shown them.
+ghost use Rattle.std.specs.Prelude.{◌≡◌, map, encode_utf8_all, IfOk};
+ghost use Rattle.srb_text.specs.Positions.{len_utf16, position_of};
+ghost use Rattle.lsp_docs.specs.Documents.{Agreed, placed, text_of};
+
+use lsp_msg::Placed;
+use srb_terms::{Diag, Items, NoMemory};
+use srb_text::{Pos, Text, laws};
+use std::alloc::Global;
+
+/// The errors of a text, their places turned into positions.
+pub fn placed(alloc: Global, text: &Text, errors: &[Diag]) -> Result<Items<Placed>, NoMemory>
+    ensures { IfOk result (λ list. (agreed : Agreed) → list ≡ map (placed agreed (encode_utf8_all text.now)) errors.now) }
+{
+    let mut list = Items::new(alloc);
+    'errors: for error in errors {
+        list.push(placed_one(alloc, text, error)?)?;
+    }
+    Ok(list)
+}
+
+fn placed_one(alloc: Global, text: &Text, error: &Diag) -> Result<Placed, NoMemory>
+    ensures { IfOk result (λ one. (agreed : Agreed) → one ≡ placed agreed (encode_utf8_all text.now) error.now) }
+{
+    Ok(Placed {
+        start: position(text, error.span.start),
+        end: position(text, error.span.end),
+        number: error.number,
+        text: error.text.copied(alloc)?,
+    })
+}
+
+// The position of any offset in bytes: inside a character that of its start, behind the text that of its end.
+fn position(text: &Text, at: u32) -> Pos
+    ensures { result ≡ position_of len_utf16 (text_of (encode_utf8_all text.now)) at }
+{
+    laws::starts_are_boundaries();
+    let start = text.as_str().floor_char_boundary(at as usize);
+    text.pos(start as u32)
+}
