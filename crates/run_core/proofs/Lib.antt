@@ -9,3 +9,7 @@ pub mod Ordering
 pub mod Languages
 pub mod Examples
 pub mod Landing
+pub mod RowMarks
+pub mod RowIndexes
+pub mod NextFile
+pub mod CoreSteps

@@ -4,6 +4,8 @@ pub mod Histories
 pub mod Legal
 pub mod Settled
 pub mod Machine
+pub mod Rows
+pub mod Cores
 pub mod Runs
 pub mod Counts
 pub mod Order

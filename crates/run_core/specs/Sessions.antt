@@ -1,5 +1,5 @@
 -- The life of a session, and what each message means in it.
-use Rattle.std.specs.Prelude.{ℕ, ℤ, negsuc, List, [], Option, Some, None, Result, Ok, Err, codes, bytes_eq, if◌then◌else◌}
+use Rattle.std.specs.Prelude.{ℕ, ℤ, List, [], Option, Some, None, Result, Ok, Err, codes, bytes_eq, if◌then◌else◌}
 use Rattle.lsp_msg.specs.declared.id.Id.{Id}
 use Rattle.lsp_msg.specs.declared.msg.Msg.{Msg}
 use Rattle.lsp_msg.specs.declared.msg.Msg.TheVariants.{Initialize, Opened, Changed, Saved, Closed, Shutdown, Unknown, BadParams, Bad}
@@ -7,17 +7,15 @@ use Rattle.lsp_msg.specs.declared.out.Out.{Out}
 use Rattle.lsp_msg.specs.declared.out.Out.TheVariants.{Initialized, Error, Log}
 use Rattle.lsp_msg.specs.declared.reason.Reason.{Reason}
 use Rattle.lsp_msg.specs.declared.reason.Reason.TheVariants as reason
+use Rattle.lsp_msg.specs.ErrorCodes.{invalid_request, method_not_found, invalid_params, server_not_initialized}
 use Rattle.lsp_docs.specs.declared.doc_end.DocEnd.{DocEnd}
 use Rattle.lsp_docs.specs.declared.doc_end.DocEnd.TheVariants as refused
 use Rattle.lsp_docs.specs.Paths.{Path}
 use Rattle.lsp_docs.specs.Projects.{Project, Edit}
 use Rattle.lsp_docs.specs.Documents.{Agreed, agreed_by, Documents, no_documents, Deed, after_deed, applied}
-
--- Before `initialize` is accepted, between, and after `shutdown` is accepted.
-pub data Phase : Type 0 where
-  Waiting : Phase
-  Serving : Phase
-  Closing : Phase
+-- before `initialize` is accepted, between, and after `shutdown` is accepted
+pub use Rattle.run_core.specs.declared.phase.Phase.{Phase}
+pub use Rattle.run_core.specs.declared.phase.Phase.TheVariants.{Waiting, Serving, Closing}
 
 pub record Session : Type 0 where
   pub phase : Phase
@@ -44,27 +42,14 @@ pub data Told : Type 0 where
   -- it is the accepted `shutdown`
   Ended : Id → Told
 
--- the codes of the errors (JSON-RPC 2.0, section 5.1; LSP 3.17, "ErrorCodes")
-abbrev pub INVALID_REQUEST : ℤ
-INVALID_REQUEST = negsuc 32599
-
-abbrev pub METHOD_NOT_FOUND : ℤ
-METHOD_NOT_FOUND = negsuc 32600
-
-abbrev pub INVALID_PARAMS : ℤ
-INVALID_PARAMS = negsuc 32601
-
-abbrev pub NOT_INITIALIZED : ℤ
-NOT_INITIALIZED = negsuc 32001
-
 -- Before `initialize`: what is no message is answered by its code, any request but `initialize` by "server not
 -- initialized", and notifications are dropped. An `initialize` whose parameters can't be read doesn't count.
 abbrev pub when_waiting : Msg → Told
 when_waiting (Initialize id root encodings) = Began id (agreed_by root encodings)
-when_waiting (Shutdown id) = Failed (Some id) NOT_INITIALIZED
-when_waiting (Unknown id) = Failed (Some id) NOT_INITIALIZED
+when_waiting (Shutdown id) = Failed (Some id) server_not_initialized
+when_waiting (Unknown id) = Failed (Some id) server_not_initialized
 when_waiting (BadParams method (Some id)) =
-    Failed (Some id) (if bytes_eq method (codes "initialize") then INVALID_PARAMS else NOT_INITIALIZED)
+    Failed (Some id) (if bytes_eq method (codes "initialize") then invalid_params else server_not_initialized)
 when_waiting (Bad code id) = Failed id code
 when_waiting m = Nothing
 
@@ -98,10 +83,10 @@ told_by method (Err e) = elim (reason_of e) [
 -- request by "method not found", a request whose parameters can't be read by "invalid params". A notification
 -- whose parameters can't be read, and a message about a document that is refused, gives a log message.
 abbrev pub when_serving : Documents → Msg → Told
-when_serving d (Initialize id root encodings) = Failed (Some id) INVALID_REQUEST
+when_serving d (Initialize id root encodings) = Failed (Some id) invalid_request
 when_serving d (Shutdown id) = Ended id
-when_serving d (Unknown id) = Failed (Some id) METHOD_NOT_FOUND
-when_serving d (BadParams method (Some id)) = Failed (Some id) INVALID_PARAMS
+when_serving d (Unknown id) = Failed (Some id) method_not_found
+when_serving d (BadParams method (Some id)) = Failed (Some id) invalid_params
 when_serving d (BadParams method None) = Logged method reason.InvalidParams
 when_serving d (Bad code id) = Failed id code
 when_serving d m = elim (applied d m) [
@@ -112,10 +97,10 @@ when_serving d m = elim (applied d m) [
 -- After `shutdown`: what is no message is answered by its code, any request by "invalid request", and notifications
 -- are dropped.
 abbrev pub when_closing : Msg → Told
-when_closing (Initialize id root encodings) = Failed (Some id) INVALID_REQUEST
-when_closing (Shutdown id) = Failed (Some id) INVALID_REQUEST
-when_closing (Unknown id) = Failed (Some id) INVALID_REQUEST
-when_closing (BadParams method (Some id)) = Failed (Some id) INVALID_REQUEST
+when_closing (Initialize id root encodings) = Failed (Some id) invalid_request
+when_closing (Shutdown id) = Failed (Some id) invalid_request
+when_closing (Unknown id) = Failed (Some id) invalid_request
+when_closing (BadParams method (Some id)) = Failed (Some id) invalid_request
 when_closing (Bad code id) = Failed id code
 when_closing m = Nothing
 

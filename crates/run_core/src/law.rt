@@ -15,6 +15,7 @@ ghost use Rattle.run_core.specs.Legal.{IsBegun, LegalSoFar, Legal};
 ghost use Rattle.run_core.specs.Settled.{Settled};
 ghost use Rattle.run_core.specs.Runs.{Run, outs, messages_in, last_state, Over, built_last};
 ghost use Rattle.run_core.specs.Machine.{State, project_of, looked, is_at_rest, may_work, may_drop, must_wait};
+ghost use Rattle.run_core.specs.Cores.{checked_language};
 ghost use Rattle.run_core.specs.Counts.{works, builds, files_built, changes_in};
 ghost use Rattle.run_core.specs.Order.{IsOwedBy, CountsAsLooked, IsStaleBy, IsOwnStep};
 
@@ -86,4 +87,9 @@ pub fn each_landing_is_one_of_three()
 /// What was found in the project of the last build, and may not be thrown away, is what a fresh check finds now.
 pub fn landed_errors_are_fresh()
     ensures { (language : Language) (base : Project) (steps : List Step) (f : Path) → IsLanguage language → IsProject base → IsFalse (may_drop (last_state language base steps) f) → language.fresh (built_last (no_history base) base steps) f ≡ language.fresh (project_of (last_state language base steps)) f }
+{}
+
+/// All that the laws ask of a language holds of what is checked here.
+pub fn what_is_checked_is_a_language()
+    ensures { IsLanguage checked_language }
 {}

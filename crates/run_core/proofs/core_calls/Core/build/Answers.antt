@@ -1,0 +1,17 @@
+use Rattle.std.proofs.Common.{false, sym, ap, ◌∙◌, subst}
+use Rattle.std.specs.Prelude.{None}
+use Rattle.run_watch.specs.declared.step.Step.TheVariants.{Build}
+use Rattle.run_core.specs.Cores.{Account, IsCore, Makes, state_of}
+use Rattle.run_core.specs.Machine.{looked}
+use Rattle.run_core.proofs.CoreSteps.{built_core, build_makes, both}
+use Rattle.run_core.proofs.core_calls.Core.build.Goals as goal
+
+pub invariant_of-self : goal.invariant_of-self
+invariant_of-self c = subst (IsCore c.self.inside.docs false) (sym c.build.ensures.list) (built_core _ _ _ c.self.invariant)
+
+pub returns-clause-makes : goal.returns-clause-makes
+returns-clause-makes c =
+    subst (λ (a : Account). Makes a.state (state_of c.self.inside.docs c.self.inside.phase c.build.new.self.list c.self.inside.epoch false c.self.inside.seen c.self.inside.owing c.self.inside.ended) Build None) c.self.view_is
+    (build_makes _ _ _ _ _ _ _ _ _
+    (both _ _ (ap (λ (a : Account). looked a.state) c.self.view_is ∙ c.requires.looked) (ap (λ (a : Account). a.state.stale) c.self.view_is ∙ c.requires.stale))
+    c.build.ensures.ordered c.self.invariant.paths c.build.ensures.list)

@@ -1,0 +1,9 @@
+use Rattle.std.proofs.Common.{ap, arith}
+use Rattle.srb_check.specs.Checks.{fresh_of}
+use Rattle.run_core.proofs.law.what_is_checked_is_a_language.Goals as goal
+
+pub returns : goal.returns
+returns c = record {
+  absent = λ p f order none. ap fresh_of none;
+  kept = λ p e f order keeps other. absurd (grind (arith, keeps));
+}

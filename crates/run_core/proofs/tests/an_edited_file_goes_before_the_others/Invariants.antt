@@ -1,0 +1,5 @@
+use Rattle.run_core.proofs.tests.an_edited_file_goes_before_the_others.Given as goal
+
+-- the ledger is the blank's
+abbrev pub ghosts-session : goal.ghosts-session
+ghosts-session g a = record { name = a.blank.name; parts = a.blank.parts }

@@ -1,0 +1,121 @@
+-- What a core tells, and what each of its calls does.
+use Rattle.std.specs.Prelude.{◌≡◌, ◌≢◌, ◌⊎◌, ℕ, ◌+◌, ◌-◌, ◌^◌, min, Bool, true, false, not, ◌&&◌, List, [], map, Option, Some, None, unwrap_or, IsTrue, IsFalse, if◌then◌else◌}
+use Rattle.std.specs.Option.{option_map}
+use Rattle.srb_check.specs.Checks.{fresh}
+use Rattle.srb_terms.specs.Projects.{bytes_at}
+use Rattle.srb_terms.specs.declared.diag.Diag.{Diag}
+use Rattle.lsp_msg.specs.declared.id.Id.{Id}
+use Rattle.lsp_msg.specs.declared.out.Out.{Out}
+use Rattle.lsp_msg.specs.declared.out.Out.TheVariants as out
+use Rattle.run_watch.specs.declared.end_cause.EndCause.{EndCause}
+use Rattle.run_watch.specs.declared.inp.Inp.{Inp}
+use Rattle.run_watch.specs.declared.inp.Inp.TheVariants.{Msg, End}
+use Rattle.run_watch.specs.declared.step.Step.{Step}
+use Rattle.run_watch.specs.declared.step.Step.TheVariants.{Work}
+use Rattle.lsp_docs.specs.Paths.{Path, is_before}
+use Rattle.lsp_docs.specs.Projects.{paths_of}
+use Rattle.lsp_docs.specs.Documents.{Documents, placed, uri_of}
+use Rattle.lsp_docs.specs.Uris.{is_empty}
+use Rattle.run_core.specs.Language.{Language}
+use Rattle.run_core.specs.Sessions.{Phase, Waiting, Serving, Closing}
+use Rattle.run_core.specs.Rows.{lists_shown, marked, OwedAreAsked}
+use Rattle.run_core.specs.declared.mark.Mark.TheVariants.{Present, Todo, Owed, Edited}
+use Rattle.run_core.specs.declared.row.Row.{Row}
+use Rattle.run_core.specs.declared.landed.Landed.{Landed}
+use Rattle.run_core.specs.declared.landed.Landed.TheVariants.{Shown, Quiet}
+use Rattle.run_core.specs.Machine.{State, looked, may_work, Permits, next, written}
+
+-- The language that is checked: the errors of a file are those of a fresh check, and no edit is taken to keep the errors
+-- of the other files.
+abbrev pub checked_language : Language
+checked_language = record { fresh = fresh; keeps = λ p e. false }
+
+-- What a core tells: its state, and how many files it worked on that weren't owed.
+pub record Account : Type 0 where
+  pub state : State
+  pub own_checks : ℕ
+
+-- The step is permitted, and this is the state that it leaves and the message that it writes.
+pub record Makes (old new : State) (step : Step) (answer : Option Out) : Type 0 where
+  pub permitted : Permits checked_language old step
+  pub made : new ≡ next checked_language old step
+  pub answered : answer ≡ written old step
+
+-- It is the least path in byte order that may be worked on.
+pub record IsLeastOwn (s : State) (f : Path) : Type 0 where
+  pub permitted : IsTrue (may_work s f)
+  pub least : (g : Path) → IsTrue (may_work s g) → IsFalse (is_before g f)
+
+-- the file to be worked on next is the least that may be, or none may be
+abbrev pub IsNextOwn : State → Option Path → Type 0
+IsNextOwn s None = (f : Path) → IsFalse (may_work s f)
+IsNextOwn s (Some f) = IsLeastOwn s f
+
+-- some file may be worked on
+abbrev pub has_own : State → Bool
+has_own s = looked s && not s.stale && not (is_empty s.todo)
+
+-- The core works on a file: the least that it may, and `shown` is set or not.
+abbrev pub IsWork : State → Bool → Step → Type 0
+IsWork s shown (Work f epoch list is_shown) = IsLeastOwn s f × (is_shown ≡ shown)
+IsWork s shown step = ⊥
+
+-- What is handed back where the errors of a file landed: the step that was made, and its message exactly where it has one.
+abbrev pub Lands : State → State → Landed → Type 0
+Lands old new (Shown step out) = IsWork old true step × Makes old new step (Some out)
+Lands old new (Quiet step) = IsWork old false step × Makes old new step None
+
+-- The number of files worked on that weren't owed, after one more file: owed files go first, so that file isn't owed
+-- exactly where none is. The number stays at the greatest of 64 bits.
+abbrev pub checks_after : Account → ℕ
+checks_after a = if is_empty a.state.owed then min (a.own_checks + 1) (2 ^ 64 - 1) else a.own_checks
+
+-- `shutdown` was accepted
+abbrev pub is_closing : Phase → Bool
+is_closing Waiting = false
+is_closing Serving = false
+is_closing Closing = true
+
+-- the cause of the end that was taken, and whether `shutdown` was accepted before it
+abbrev pub end_of : State → Option (EndCause × Bool)
+end_of s = option_map (λ cause. (cause, is_closing s.session.phase)) s.ended
+
+-- the end that an input tells
+abbrev pub ended_by : Inp → Option EndCause
+ended_by (Msg m) = None
+ended_by (End cause) = Some cause
+
+-- ---- how a core is kept
+
+-- the state of these documents, rows and marks of a core
+abbrev pub state_of : Documents → Phase → List Row → ℕ → Bool → Bool → Option Id → Option EndCause → State
+state_of documents phase rows epoch stale seen owing ended = record {
+  session = record { phase = phase; documents = documents };
+  epoch = epoch;
+  stale = stale;
+  todo = marked Todo rows;
+  owed = marked Owed rows;
+  edited = marked Edited rows;
+  shown = lists_shown rows;
+  seen = seen;
+  owing = owing;
+  ended = ended;
+}
+
+-- What always holds of a core.
+pub record IsCore (documents : Documents) (stale : Bool) (rows : List Row) : Type 0 where
+  -- the rows know which files the project has
+  pub paths : marked Present rows ≡ paths_of documents.project
+  -- where nothing is stale each owed file is one to be worked on
+  pub asked : stale ≡ false → OwedAreAsked rows
+
+-- The list found in a row's file has to be written: the file is owed, or it isn't the list written last.
+abbrev pub IsDue : Row → List Diag → Bool → Type 0
+IsDue r list true = IsTrue r.owed ⊎ (list ≢ unwrap_or r.shown [])
+IsDue r list false = IsFalse r.owed × (list ≡ unwrap_or r.shown [])
+
+-- what lands where a file was worked on, this list was found, and `shown` says whether it is written
+abbrev pub landed_by : Documents → Path → ℕ → List Diag → Bool → Landed
+landed_by d f epoch list true = Shown (Work f epoch list true)
+    (out.List (uri_of d.agreed f) epoch (map (placed d.agreed (unwrap_or (bytes_at f d.project) [])) list))
+landed_by d f epoch list false = Quiet (Work f epoch list false)

@@ -1,0 +1,331 @@
+//! The core and its calls, each of which makes one step of the machine or tells of its state.
+
+ghost use Rattle.std.specs.Prelude.{◌≡◌, ◌+◌, ◌<◌, ◌≤◌, true, not, length, None, is_some, IsTrue, IsFalse, IsNone, IsSome, IfOk, OnOk, OnErr};
+ghost use Rattle.std.specs.Option.{option_copied};
+ghost use Rattle.lsp_docs.specs.Documents.{MOST_BYTES, MOST_FILES, applied};
+ghost use Rattle.lsp_docs.specs.Projects.{paths_of, total_bytes};
+ghost use Rattle.lsp_docs.specs.Uris.{is_empty};
+ghost use Rattle.run_watch.specs.declared.inp.Inp.TheVariants as inp;
+ghost use Rattle.run_watch.specs.declared.step.Step.TheVariants.{Take, Look, Build, Idle};
+ghost use Rattle.run_core.specs.Cores.{Lands, Makes, IsNextOwn, checks_after, end_of, ended_by, has_own};
+ghost use Rattle.run_core.specs.Machine.{is_at_rest, looked, opening, project_of};
+ghost use Rattle.run_core.specs.Sessions.{Waiting, Serving};
+
+use crate::answers::{closing_answer, log_of, reason_of, serving_answer, waiting_answer};
+use crate::checks::{fresh_list, is_due, landed_of, list_if, with_check};
+use crate::landed::Landed;
+use crate::phase::Phase;
+use crate::rows::{Rows, next_row};
+use lsp_docs::Docs;
+use lsp_msg::{Id, Msg, Out};
+use run_watch::{EndCause, Inp};
+use srb_check::Job;
+use srb_terms::{Name, NoMemory, Project, Steps, World};
+use std::alloc::{AllocError, Global};
+use std::marker::Model;
+use std::sync::ledger::Ledger;
+
+/// The core of a session: its documents, what is to be worked on, and what was written last of each file. A contract sees
+/// its `Account`: the state of the machine, and a count.
+#[derive(Drop)]
+pub struct Core {
+    docs: Docs,
+    phase: Phase,
+    rows: Rows,
+    epoch: u64,
+    stale: bool,
+    seen: bool,
+    owing: Option<Id>,
+    ended: Option<EndCause>,
+    own_checks: u64,
+}
+
+impl Model for Core {
+    ghost use Rattle.run_core.specs.Cores.{Account, IsCore, state_of};
+
+    ghost Value = { Account };
+
+    ghost view = { λ c. record { state = state_of c.docs c.phase c.rows.list c.epoch c.stale c.seen c.owing c.ended; own_checks = c.own_checks } };
+
+    ghost invariant = { λ c. IsCore c.docs c.stale c.rows.list };
+}
+
+impl Core {
+    /// The core of a session over these files, before any step. There are at most 4,096 files, of at most 16,777,216
+    /// bytes together.
+    pub fn new(alloc: Global, files: Project) -> Result<Core, NoMemory>
+        requires count { length files ≤ MOST_FILES }
+        requires bytes { total_bytes files ≤ MOST_BYTES }
+        ensures state { IfOk result (λ core. core.state ≡ opening files) }
+        ensures checks { IfOk result (λ core. core.own_checks ≡ 0) }
+    {
+        let rows = Rows::new(alloc, &files)?;
+        let docs = Docs::new(alloc, files)?;
+        Ok(Core {
+            docs,
+            phase: Phase::Waiting,
+            rows,
+            epoch: 0,
+            stale: false,
+            seen: false,
+            owing: None,
+            ended: None,
+            own_checks: 0,
+        })
+    }
+
+    /// Takes the next input, and answers the message to be written, if there is one. After an error the core is as it
+    /// was. An edit past the greatest `u64` is refused as want of memory.
+    pub fn take(&mut self, alloc: Global, inp: Inp) -> Result<Option<Out>, NoMemory>
+        requires { IsNone self.old.state.ended }
+        ensures makes { IfOk result (λ out. Makes self.old.state self.new.state (Take inp) out) }
+        ensures ended { OnOk result (self.new.state.ended ≡ ended_by inp) }
+        ensures checks { self.new.own_checks ≡ self.old.own_checks }
+        ensures err { OnErr result (self.new ≡ self.old) }
+    {
+        match inp {
+            Inp::Msg(msg) => self.take_message(alloc, msg),
+            Inp::End(cause) => {
+                self.ended = Some(cause);
+                self.seen = false;
+                Ok(None)
+            }
+        }
+    }
+
+    fn take_message(&mut self, alloc: Global, msg: Msg) -> Result<Option<Out>, NoMemory>
+        requires { IsNone self.old.state.ended }
+        ensures makes { IfOk result (λ out. Makes self.old.state self.new.state (Take (inp.Msg msg)) out) }
+        ensures ended { self.new.state.ended ≡ self.old.state.ended }
+        ensures checks { self.new.own_checks ≡ self.old.own_checks }
+        ensures err { OnErr result (self.new ≡ self.old) }
+    {
+        match self.phase {
+            Phase::Waiting => self.take_waiting(alloc, msg),
+            Phase::Serving => self.take_serving(alloc, msg),
+            Phase::Closing => {
+                self.seen = false;
+                Ok(closing_answer(msg))
+            }
+        }
+    }
+
+    fn take_waiting(&mut self, alloc: Global, msg: Msg) -> Result<Option<Out>, NoMemory>
+        requires ended { IsNone self.old.state.ended }
+        requires phase { self.old.state.session.phase ≡ Waiting }
+        ensures makes { IfOk result (λ out. Makes self.old.state self.new.state (Take (inp.Msg msg)) out) }
+        ensures ended { self.new.state.ended ≡ self.old.state.ended }
+        ensures checks { self.new.own_checks ≡ self.old.own_checks }
+        ensures err { OnErr result (self.new ≡ self.old) }
+    {
+        if let Msg::Initialize { root, .. } = &msg {
+            self.docs.set_root(alloc, root.as_ref())?;
+            self.phase = Phase::Serving;
+            self.stale = true;
+        }
+        self.seen = false;
+        Ok(waiting_answer(msg))
+    }
+
+    fn take_serving(&mut self, alloc: Global, msg: Msg) -> Result<Option<Out>, NoMemory>
+        requires ended { IsNone self.old.state.ended }
+        requires phase { self.old.state.session.phase ≡ Serving }
+        ensures makes { IfOk result (λ out. Makes self.old.state self.new.state (Take (inp.Msg msg)) out) }
+        ensures ended { self.new.state.ended ≡ self.old.state.ended }
+        ensures checks { self.new.own_checks ≡ self.old.own_checks }
+        ensures err { OnErr result (self.new ≡ self.old) }
+    {
+        match &msg {
+            Msg::Opened { .. } | Msg::Changed { .. } | Msg::Saved { .. } | Msg::Closed { .. } => {
+                return self.take_document(alloc, &msg);
+            }
+            Msg::Shutdown { id } => {
+                self.owing = Some(id.copied(alloc)?);
+                self.phase = Phase::Closing;
+            }
+            _ => {}
+        }
+        self.seen = false;
+        Ok(serving_answer(msg))
+    }
+
+    fn take_document(&mut self, alloc: Global, msg: &Msg) -> Result<Option<Out>, NoMemory>
+        requires ended { IsNone self.old.state.ended }
+        requires phase { self.old.state.session.phase ≡ Serving }
+        requires document { IsSome (applied self.old.state.session.documents msg.now) }
+        ensures makes { IfOk result (λ out. Makes self.old.state self.new.state (Take (inp.Msg msg.now)) out) }
+        ensures ended { self.new.state.ended ≡ self.old.state.ended }
+        ensures checks { self.new.own_checks ≡ self.old.own_checks }
+        ensures err { OnErr result (self.new ≡ self.old) }
+    {
+        if self.epoch == u64::MAX {
+            return Err(AllocError);
+        }
+        self.rows.reserve()?;
+        match self.docs.apply(alloc, msg) {
+            Ok(applied) => {
+                self.seen = false;
+                if !applied.edit {
+                    return Ok(None);
+                }
+                let present = self.docs.bytes(&applied.path).is_some();
+                self.rows.edit(applied.path, present);
+                self.epoch += 1;
+                self.stale = true;
+                Ok(None)
+            }
+            Err(end) => match reason_of(end) {
+                Some(reason) => {
+                    let log = log_of(alloc, msg, reason)?;
+                    self.seen = false;
+                    Ok(Some(log))
+                }
+                None => Err(AllocError),
+            },
+        }
+    }
+
+    /// Notes that the inbox was found empty.
+    pub fn looked(&mut self)
+        ensures makes { Makes self.old.state self.new.state Look None }
+        ensures seen { self.new.state ≡ record self.old.state { seen = true } }
+        ensures checks { self.new.own_checks ≡ self.old.own_checks }
+    {
+        self.seen = true;
+    }
+
+    /// Builds the symbol table of the project as it is now. After an error the core is as it was.
+    pub fn build(&mut self, alloc: Global) -> Result<Job, NoMemory>
+        requires looked { IsTrue (looked self.old.state) }
+        requires stale { IsTrue self.old.state.stale }
+        ensures makes { OnOk result (Makes self.old.state self.new.state Build None) }
+        ensures looked { OnOk result (IsTrue (looked self.new.state)) }
+        ensures built { OnOk result (IsFalse self.new.state.stale) }
+        ensures ended { self.new.state.ended ≡ self.old.state.ended }
+        ensures job { IfOk result (λ job. job.paths ≡ paths_of (project_of self.old.state)) }
+        ensures checks { self.new.own_checks ≡ self.old.own_checks }
+        ensures err { OnErr result (self.new ≡ self.old) }
+    {
+        let paths = self.rows.present_paths(alloc)?;
+        self.rows.build();
+        self.stale = false;
+        Ok(Job {
+            world: World {},
+            paths,
+        })
+    }
+
+    /// The least path in byte order that may be worked on. `None` exactly where there is none.
+    pub fn next_own(&self) -> Option<&Name>
+        ensures next { IsNextOwn self.now.state (option_copied result) }
+        ensures some { is_some result ≡ has_own self.now.state }
+    {
+        if !self.is_looked() || self.stale {
+            return None;
+        }
+        let index = next_row(&self.rows);
+        if index < self.rows.as_slice().len() {
+            Some(&self.rows.row(index).path)
+        } else {
+            None
+        }
+    }
+
+    /// Works on the file that `next_own` gives, and counts one step. The list is written where it was owed or differs from
+    /// the one written last. After an error the core is as it was.
+    pub fn check_own<L: Ledger>(
+        &mut self,
+        alloc: Global,
+        steps: &mut Steps<L>,
+    ) -> Result<Landed, NoMemory>
+        requires { IsTrue (has_own self.old.state) }
+        ensures lands { IfOk result (Lands self.old.state self.new.state) }
+        ensures counted { OnOk result (steps.new ≡ steps.old + 1) }
+        ensures checks { OnOk result (self.new.own_checks ≡ checks_after self.old) }
+        ensures fewer { OnOk result (length self.new.state.todo < length self.old.state.todo) }
+        ensures stale { self.new.state.stale ≡ self.old.state.stale }
+        ensures ended { self.new.state.ended ≡ self.old.state.ended }
+        ensures err { OnErr result (self.new ≡ self.old) }
+    {
+        let index = next_row(&self.rows);
+        let file = self.rows.row(index);
+        let owed = file.owed;
+        let list = fresh_list(alloc, self.docs.bytes(&file.path), steps)?;
+        let shown = is_due(file, list.as_slice());
+        let landed = landed_of(
+            alloc,
+            &self.docs,
+            &file.path,
+            self.epoch,
+            list.as_slice(),
+            shown,
+        )?;
+        self.rows.work(index, list_if(shown, list));
+        self.seen = false;
+        self.own_checks = with_check(owed, self.own_checks);
+        Ok(landed)
+    }
+
+    /// Whether nothing is left to work on.
+    pub fn rest(&self) -> bool
+        ensures { result ≡ is_at_rest self.now.state }
+    {
+        !self.stale && self.rows.first_todo() == self.rows.as_slice().len()
+    }
+
+    /// Whether some path is owed.
+    pub fn owes(&self) -> bool
+        ensures { result ≡ not (is_empty self.now.state.owed) }
+    {
+        self.rows.first_owed() < self.rows.as_slice().len()
+    }
+
+    /// Whether the inbox counts as looked at.
+    pub fn is_looked(&self) -> bool
+        ensures { result ≡ looked self.now.state }
+    {
+        self.seen || self.ended.is_some() || self.owing.is_some()
+    }
+
+    /// Whether the symbol table has to be built before any file is worked on.
+    pub fn is_stale(&self) -> bool
+        ensures { result ≡ self.now.state.stale }
+    {
+        self.stale
+    }
+
+    /// The number of files that `check_own` worked on and that weren't owed. It stays at the greatest `u64`.
+    pub fn own_checks(&self) -> u64
+        ensures { result ≡ self.now.own_checks }
+    {
+        self.own_checks
+    }
+
+    /// The cause of the end that was taken, and whether a `shutdown` was accepted before it. `None` exactly where no end
+    /// was taken.
+    pub fn end(&self) -> Option<(EndCause, bool)>
+        ensures end { result ≡ end_of self.now.state }
+        ensures none { is_some result ≡ is_some self.now.state.ended }
+    {
+        match self.ended {
+            Some(cause) => Some((cause, matches!(self.phase, Phase::Closing))),
+            None => None,
+        }
+    }
+
+    /// Notes that nothing is left to do, and answers the reply to `shutdown` if it is owed.
+    pub fn idle(&mut self, alloc: Global) -> Result<Option<Out>, NoMemory>
+        requires looked { IsTrue (looked self.old.state) }
+        requires rest { IsTrue (is_at_rest self.old.state) }
+        ensures makes { IfOk result (Makes self.old.state self.new.state Idle) }
+        ensures ended { self.new.state.ended ≡ self.old.state.ended }
+        ensures checks { self.new.own_checks ≡ self.old.own_checks }
+        ensures err { OnErr result (self.new ≡ self.old) }
+    {
+        let _alloc = alloc;
+        match self.owing.take() {
+            Some(id) => Ok(Some(Out::Null { id })),
+            None => Ok(None),
+        }
+    }
+}

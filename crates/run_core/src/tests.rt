@@ -1,0 +1,238 @@
+ghost use Rattle.std.specs.Prelude.{◌≡◌, ◌<◌, ◌≤◌, length, IfOk};
+ghost use Rattle.lsp_docs.specs.Projects.{total_bytes};
+
+use crate::{Core, Landed};
+use lsp_msg::{Change, INVALID_REQUEST, Id, Msg, Out, Placed, Reason, SERVER_NOT_INITIALIZED};
+use run_watch::{EndCause, Inp, Step};
+use srb_terms::{Items, Name, NoMemory, Project, Steps, Words};
+use std::alloc::Global;
+use std::marker::Brand;
+use std::process::Abort;
+use std::sync::ledger::{Blank, Ledger};
+
+const NIL: &str = "# typed: true\nT.reveal_type(nil)\n";
+
+const ONE: &str = "# typed: true\nT.reveal_type(1)\n";
+
+fn three_files(alloc: Global, text: &str) -> Result<Project, NoMemory>
+    requires { length text.now ≤ 1000 }
+    ensures count { IfOk result (λ p. length p ≤ 4096) }
+    ensures bytes { IfOk result (λ p. total_bytes p ≤ 16777216) }
+{
+    let mut files = Project::new(alloc);
+    files.put(
+        Name::from_str(alloc, "a.rb")?,
+        Vec::from_slice(alloc, text.as_bytes())?,
+    )?;
+    files.put(
+        Name::from_str(alloc, "b.rb")?,
+        Vec::from_slice(alloc, text.as_bytes())?,
+    )?;
+    files.put(
+        Name::from_str(alloc, "c.rb")?,
+        Vec::from_slice(alloc, text.as_bytes())?,
+    )?;
+    Ok(files)
+}
+
+fn initialize(alloc: Global) -> Result<Inp, NoMemory> {
+    Ok(Inp::Msg(Msg::Initialize {
+        id: Id::Number(1),
+        root: Some(Words::from_str(alloc, "file:///p")?),
+        encodings: Items::new(alloc),
+    }))
+}
+
+fn open(alloc: Global, uri: &str, text: &str) -> Result<Inp, NoMemory> {
+    Ok(Inp::Msg(Msg::Opened {
+        uri: Words::from_str(alloc, uri)?,
+        text: Words::from_str(alloc, text)?,
+    }))
+}
+
+fn say(rt: &impl Abort, alloc: Global, core: &mut Core, inp: Inp) -> Result<Option<Out>, NoMemory> {
+    assert!(rt; core.end().is_none());
+    core.take(alloc, inp)
+}
+
+fn build(rt: &impl Abort, alloc: Global, core: &mut Core) -> Result<usize, NoMemory> {
+    core.looked();
+    assert!(rt; core.is_stale());
+    assert!(rt; core.next_own().is_none());
+    Ok(core.build(alloc)?.paths.len())
+}
+
+fn check<L: Ledger>(
+    rt: &impl Abort,
+    alloc: Global,
+    core: &mut Core,
+    steps: &mut Steps<L>,
+) -> Result<Landed, NoMemory> {
+    assert!(rt; core.next_own().is_none() || core.is_looked());
+    core.looked();
+    assert!(rt; core.next_own().is_some());
+    core.check_own(alloc, steps)
+}
+
+fn is_only(items: &[Placed], text: &str) -> bool {
+    match items {
+        [one] => one.text.as_str() == text,
+        _ => false,
+    }
+}
+
+fn is_work(step: &Step, path: &str, epoch: u64) -> bool {
+    match step {
+        Step::Work {
+            path: worked,
+            epoch: at,
+            list: _,
+            shown: _,
+        } => worked.as_str() == path && *at == epoch,
+        _ => false,
+    }
+}
+
+fn is_list(out: &Out, uri: &str, epoch: u64, text: &str) -> bool {
+    match out {
+        Out::List {
+            uri: shown,
+            epoch: at,
+            items,
+        } => shown.as_str() == uri && *at == epoch && is_only(items.as_slice(), text),
+        _ => false,
+    }
+}
+
+fn is_quiet(landed: &Landed, path: &str, epoch: u64) -> bool {
+    match landed {
+        Landed::Quiet(step) => is_work(step, path, epoch),
+        Landed::Shown(_step, _out) => false,
+    }
+}
+
+fn is_shown(landed: &Landed, path: &str, uri: &str, epoch: u64, text: &str) -> bool {
+    match landed {
+        Landed::Quiet(_step) => false,
+        Landed::Shown(step, out) => is_work(step, path, epoch) && is_list(out, uri, epoch, text),
+    }
+}
+
+fn first_round<L: Ledger>(
+    rt: &impl Abort,
+    alloc: Global,
+    core: &mut Core,
+    steps: &mut Steps<L>,
+) -> Result<(), NoMemory> {
+    assert!(rt; build(rt, alloc, core)? == 3);
+    let a = check(rt, alloc, core, steps)?;
+    assert!(rt; is_shown(&a, "a.rb", "file:///p/a.rb", 0, "type is NilClass"));
+    assert!(rt; !core.rest());
+    assert!(rt; !core.owes());
+    Ok(())
+}
+
+fn second_round<L: Ledger>(
+    rt: &impl Abort,
+    alloc: Global,
+    core: &mut Core,
+    steps: &mut Steps<L>,
+) -> Result<(), NoMemory> {
+    assert!(rt; core.owes());
+    assert!(rt; build(rt, alloc, core)? == 3);
+    let c = check(rt, alloc, core, steps)?;
+    assert!(rt; is_shown(&c, "c.rb", "file:///p/c.rb", 1, "type is Integer"));
+    let a = check(rt, alloc, core, steps)?;
+    assert!(rt; is_quiet(&a, "a.rb", 1));
+    let b = check(rt, alloc, core, steps)?;
+    assert!(rt; is_shown(&b, "b.rb", "file:///p/b.rb", 1, "type is NilClass"));
+    assert!(rt; core.rest());
+    assert!(rt; core.own_checks() == 3);
+    Ok(())
+}
+
+fn session<L: Ledger>(rt: &impl Abort, alloc: Global, blank: Blank) -> Result<(), NoMemory>
+    requires name { blank.name ≡ L.name }
+    requires parts { blank.parts ≡ L.parts }
+    requires some { 0 < blank.parts }
+{
+    let mut steps = Steps::<L>::new(blank);
+    let mut core = Core::new(alloc, three_files(alloc, NIL)?)?;
+    let begun = say(rt, alloc, &mut core, initialize(alloc)?)?;
+    assert!(rt; matches!(&begun, Some(Out::Initialized { .. })));
+    first_round(rt, alloc, &mut core, &mut steps)?;
+    let opened = say(rt, alloc, &mut core, open(alloc, "file:///p/c.rb", ONE)?)?;
+    assert!(rt; opened.is_none());
+    second_round(rt, alloc, &mut core, &mut steps)
+}
+
+#[test]
+fn an_edited_file_goes_before_the_others(rt: HostRuntime) -> Result<(), NoMemory> {
+    session::<Brand>(&rt, rt.alloc(), Blank::new(1))
+}
+
+fn is_error(out: &Option<Out>, id: i64, code: i32) -> bool {
+    match out {
+        Some(
+            Out::Error {
+                id: Some(Id::Number(number)),
+                code: given,
+            },
+        ) => *number == id && *given == code,
+        _ => false,
+    }
+}
+
+fn asked(id: i64) -> Inp {
+    Inp::Msg(Msg::Unknown { id: Id::Number(id) })
+}
+
+#[test]
+fn each_time_of_a_session_has_its_answers(rt: HostRuntime) -> Result<(), NoMemory> {
+    let alloc = rt.alloc();
+    let mut core = Core::new(alloc, Project::new(alloc))?;
+    let early = say(&rt, alloc, &mut core, asked(7))?;
+    assert!(rt; is_error(&early, 7, SERVER_NOT_INITIALIZED));
+    let _begun = say(&rt, alloc, &mut core, initialize(alloc)?)?;
+    let shutdown = Inp::Msg(Msg::Shutdown { id: Id::Number(2) });
+    let owed = say(&rt, alloc, &mut core, shutdown)?;
+    assert!(rt; owed.is_none());
+    let late = say(&rt, alloc, &mut core, asked(3))?;
+    assert!(rt; is_error(&late, 3, INVALID_REQUEST));
+    assert!(rt; core.is_looked());
+    assert!(rt; build(&rt, alloc, &mut core)? == 0);
+    assert!(rt; core.is_looked());
+    assert!(rt; core.rest());
+    let reply = core.idle(alloc)?;
+    assert!(rt; matches!(&reply, Some(Out::Null { id: Id::Number(2) })));
+    let _end = say(&rt, alloc, &mut core, Inp::End(EndCause::Exit))?;
+    assert!(rt; matches!(core.end(), Some((EndCause::Exit, true))));
+    Ok(())
+}
+
+fn is_log(out: &Option<Out>, refused: &str, why: Reason) -> bool {
+    match out {
+        Some(Out::Log { method, reason }) => method.as_str() == refused && *reason == why,
+        _ => false,
+    }
+}
+
+fn change(alloc: Global, uri: &str) -> Result<Inp, NoMemory> {
+    let changes: Items<Change> = Items::new(alloc);
+    Ok(Inp::Msg(Msg::Changed {
+        uri: Words::from_str(alloc, uri)?,
+        changes,
+    }))
+}
+
+#[test]
+fn a_refused_change_is_logged_and_is_no_edit(rt: HostRuntime) -> Result<(), NoMemory> {
+    let alloc = rt.alloc();
+    let mut core = Core::new(alloc, Project::new(alloc))?;
+    let _begun = say(&rt, alloc, &mut core, initialize(alloc)?)?;
+    assert!(rt; build(&rt, alloc, &mut core)? == 0);
+    let log = say(&rt, alloc, &mut core, change(alloc, "file:///p/z.rb")?)?;
+    assert!(rt; is_log(&log, "textDocument/didChange", Reason::NotOpen));
+    assert!(rt; core.rest());
+    Ok(())
+}
