@@ -1,12 +1,21 @@
 -- How a command ends: for each cause what was read, what was written, and which counts of faults have risen.
-use Rattle.std.specs.Prelude.{◌≡◌, ◌≢◌, ℕ, ◌<◌, ◌≤◌, List, [], ◌∷◌, length, codes, Option, Some, IfSome, IsTrue, MatchBool, ◌⊎◌}
+use Rattle.std.specs.Prelude.{◌≡◌, ◌≢◌, ℕ, ◌<◌, ◌≤◌, List, [], ◌∷◌, length, codes, Option, Some, IfSome, IsTrue, MatchBool, MatchOption, ◌⊎◌}
 use Rattle.std.specs.Io.KnownBytes.{Appends, IsAtEnd}
 use Rattle.srb_io.specs.Counts.{HasRisen}
+use Rattle.srb_io.specs.Files.{File}
 use Rattle.srb_io.specs.Told.{AppendsPart}
 use Rattle.srb_terms.specs.declared.cause.Cause.{Cause}
 use Rattle.srb_terms.specs.declared.cause.Cause.TheVariants.{Done, Errors, NoShutdown, Usage, ReadFault, WriteFault, Broken, TooLong, TooMany, TooBig, NoMemory}
 use Rattle.srb_check.specs.Reports.{report_of}
-use Rattle.srb_cli.specs.Usage.{is_text, usage_line}
+use Rattle.lsp_docs.specs.Projects.{Project}
+use Rattle.lsp_frame.specs.Bodies.{bodies_of}
+use Rattle.lsp_frame.specs.Bodies.Ending.{Closed}
+use Rattle.srb_cli.specs.Usage.{is_text, served_folder, usage_line}
+use Rattle.srb_cli.specs.Course.{Course, Listing, NoFileFailed, NoReadFailed, NoWriteFailed, AReadFailed, AWriteFailed, Writes, WritesPart, IsUntouched}
+use Rattle.srb_cli.specs.Folders.{IsFolder, IsWithin, IsUnread}
+use Rattle.srb_cli.specs.Served.{ServesWhole, ServesPart, ServesFront}
+
+-- ---- the command `text`
 
 -- the most bytes of all texts together
 abbrev pub LARGEST_INPUT : ℕ
@@ -15,39 +24,6 @@ LARGEST_INPUT = 16777216
 -- the path under which the command `text` checks what it reads
 abbrev pub TEXT_PATH : List ℕ
 TEXT_PATH = codes "stdin.rb"
-
--- what the outside tells of a call: the bytes that the source had left before it and has behind it, those that the sink
--- held and holds, and the counts of failed reads and writes before and behind it
-pub record Course : Type 0 where
-  pub left_before : Option (List ℕ)
-  pub left_behind : Option (List ℕ)
-  pub held_before : Option (List ℕ)
-  pub held_behind : Option (List ℕ)
-  pub reads_before : ℕ
-  pub reads_behind : ℕ
-  pub writes_before : ℕ
-  pub writes_behind : ℕ
-
--- no read failed, and no write failed
-abbrev pub NoReadFailed : Course → Type 0
-NoReadFailed c = c.reads_behind ≡ c.reads_before
-
-abbrev pub NoWriteFailed : Course → Type 0
-NoWriteFailed c = c.writes_behind ≡ c.writes_before
-
-abbrev pub AReadFailed : Course → Type 0
-AReadFailed c = HasRisen c.reads_before c.reads_behind
-
-abbrev pub AWriteFailed : Course → Type 0
-AWriteFailed c = HasRisen c.writes_before c.writes_behind
-
--- just these bytes were written
-abbrev pub Writes : Course → List ℕ → Type 0
-Writes c bytes = Appends c.held_before c.held_behind bytes
-
--- a first part of these bytes was written, and not all of them
-abbrev pub WritesPart : Course → List ℕ → Type 0
-WritesPart c bytes = AppendsPart c.held_before c.held_behind bytes
 
 -- the report of what the command `text` reads
 abbrev pub text_report : List ℕ → List ℕ
@@ -84,6 +60,8 @@ Reported Errors report before behind writes_before writes_behind = (report ≢ [
 Reported WriteFault report before behind writes_before writes_behind = AppendsPart before behind report × HasRisen writes_before writes_behind
 Reported _ report before behind writes_before writes_behind = ⊥
 
+-- ---- words that are no command
+
 -- the usage line was written, or a part of it where the sink failed
 abbrev pub UsageWritten : Option (List ℕ) → Option (List ℕ) → ℕ → ℕ → Type 0
 UsageWritten before behind writes_before writes_behind =
@@ -97,9 +75,44 @@ pub record EndsUsage (cause : Cause) (c : Course) : Type 0 where
   pub unfailed : NoReadFailed c
   pub unread : c.left_behind ≡ c.left_before
 
--- how a call with these words ends
-abbrev pub Ends : List (List ℕ) → Cause → Course → Type 0
-Ends words cause c = MatchBool (is_text words) (EndsText cause c) (EndsUsage cause c)
+-- ---- the command `lsp DIR`
+
+-- Before the session: the folder gave no project, and nothing was read of the source or written.
+abbrev pub EndsBefore : List ℕ → Cause → Course → Listing → Type 0
+EndsBefore dir cause c f = IsUntouched c × IsUnread cause (f.told dir) f.failed_before f.failed_behind
+
+-- In the session: the folder gave this project, no larger than a project may be.
+pub record HasBegun (dir : List ℕ) (base : Project) (f : Listing) : Type 0 where
+  pub folder : IsFolder (f.told dir) base
+  pub within : IsWithin base
+  pub unfailed : NoFileFailed f
+
+-- how a session over a project ends, cause by cause: the others never come
+abbrev pub Serves : Project → Cause → Course → Type 0
+Serves base Done c = ServesWhole base Done c
+Serves base NoShutdown c = ServesWhole base NoShutdown c
+Serves base ReadFault c = ServesWhole base ReadFault c
+Serves base (Broken at) c = ServesWhole base (Broken at) c
+Serves base (TooLong size) c = ServesWhole base (TooLong size) c
+Serves base WriteFault c = ServesPart base c
+Serves base NoMemory c = ServesFront base c
+Serves base Errors c = ⊥
+Serves base Usage c = ⊥
+Serves base (TooMany files) c = ⊥
+Serves base (TooBig path) c = ⊥
+
+-- how the command ends: before the session or in it
+abbrev pub EndsServing : List ℕ → Cause → Course → Listing → Type 0
+EndsServing dir cause c f =
+    EndsBefore dir cause c f ⊎ ((base : Project) × HasBegun dir base f × Serves base cause c)
+
+-- ---- any words
+
+-- how a call with these words ends; only `lsp` calls on the files
+abbrev pub Ends : List (List ℕ) → Cause → Course → Listing → Type 0
+Ends words cause c f =
+    MatchBool (is_text words) (EndsText cause c × NoFileFailed f)
+    (MatchOption (served_folder words) (EndsUsage cause c × NoFileFailed f) (λ dir. EndsServing dir cause c f))
 
 -- the causes that are left for the command `text` where the input is within the limit and nothing failed
 abbrev pub IsChecked : Cause → Type 0
@@ -120,3 +133,26 @@ IsChecked (TooBig path) = ⊥
 abbrev pub IsComplete : List (List ℕ) → Cause → Course → Type 0
 IsComplete words cause c =
     IsTrue (is_text words) → (bytes : List ℕ) → c.left_before ≡ Some bytes → length bytes ≤ LARGEST_INPUT → NoReadFailed c → NoWriteFailed c → IsChecked cause
+
+-- the causes that are left for the command `lsp DIR` where all is within the limits and nothing failed
+abbrev pub IsServed : Cause → Type 0
+IsServed Done = Unit {0}
+IsServed NoShutdown = Unit {0}
+IsServed NoMemory = Unit {0}
+IsServed Errors = ⊥
+IsServed Usage = ⊥
+IsServed ReadFault = ⊥
+IsServed WriteFault = ⊥
+IsServed (Broken at) = ⊥
+IsServed (TooLong size) = ⊥
+IsServed (TooMany files) = ⊥
+IsServed (TooBig path) = ⊥
+
+-- completeness of the command `lsp DIR`: where the files are told and are no more than a project may have, the source
+-- tells whole frames within the limits, and no count has risen, the session was served
+abbrev pub IsServedWhole : List (List ℕ) → Cause → Course → Listing → Type 0
+IsServedWhole words cause c f =
+    (dir : List ℕ) → served_folder words ≡ Some dir → (files : List File) → f.told dir ≡ Some files
+    → (base : Project) → IsFolder (Some files) base → IsWithin base
+    → (bytes : List ℕ) → c.left_before ≡ Some bytes → (bodies_of bytes).end ≡ Closed
+    → NoFileFailed f → NoReadFailed c → NoWriteFailed c → IsServed cause

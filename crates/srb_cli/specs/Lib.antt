@@ -1,2 +1,7 @@
+pub mod Course
 pub mod Ends
+pub mod Folders
+pub mod Inputs
+pub mod Served
+pub mod Talks
 pub mod Usage

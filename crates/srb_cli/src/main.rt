@@ -2,14 +2,19 @@
 #![tactic(auto)]
 
 mod commands;
+mod folder;
 mod one_thread;
+mod serving;
+mod session;
+#[cfg(test)]
+mod session_tests;
 #[cfg(test)]
 mod tests;
 mod text;
 mod usage;
 
 use commands::run;
-use srb_io::{StdSink, StdSource};
+use srb_io::{DirFiles, StdSink, StdSource};
 use srb_terms::Cause;
 use std::alloc::AllocError;
 use std::env;
@@ -32,11 +37,19 @@ fn words(rt: &HostRuntime) -> Result<Vec<String>, AllocError> {
 }
 
 fn main(rt: HostRuntime) -> ExitCode {
+    let mut files = DirFiles::new(&rt);
     let mut source = StdSource::new(rt.stdin());
     let mut sink = StdSink::new(rt.stdout());
     match words(&rt) {
         Ok(words) => {
-            let ended = run(&rt, rt.alloc(), words.as_slice(), &mut source, &mut sink);
+            let ended = run(
+                &rt,
+                rt.alloc(),
+                words.as_slice(),
+                &mut files,
+                &mut source,
+                &mut sink,
+            );
             ExitCode::from(ended.status)
         }
         Err(AllocError) => ExitCode::from(Cause::NoMemory.status()),

@@ -4,14 +4,15 @@ ghost use Rattle.srb_cli.specs.Ends.{EndsText};
 ghost use Rattle.srb_cli.specs.Usage.{is_text};
 
 use crate::text::text;
-use srb_io::{Sink, Source};
+use srb_io::{Files, Sink, Source};
 use srb_terms::Ended;
 use std::alloc::Global;
 
 /// The command `text`, which waits for nobody and returns.
-pub fn once<S: Source, K: Sink>(
+pub fn once<F: Files, S: Source, K: Sink>(
     alloc: Global,
     words: &[String],
+    files: &mut F,
     source: &mut S,
     sink: &mut K,
 ) -> Ended
@@ -29,7 +30,9 @@ pub fn once<S: Source, K: Sink>(
       writes_before = K.faults sink.old;
       writes_behind = K.faults sink.new;
     } }
+    ensures unlisted { F.faults files.new ≡ F.faults files.old }
 {
     let _words = words;
+    let _files = files;
     Ended::new(text(alloc, source, sink))
 }

@@ -1,7 +1,7 @@
 ghost use Rattle.std.specs.Prelude.{◌≡◌, None, IfOk};
 
 use crate::commands::run;
-use srb_io::{Failed, MemSink, MemSource, Sink, Source};
+use srb_io::{Failed, Files, MemFiles, MemSink, MemSource, Sink, Source};
 use std::alloc::{AllocError, Global};
 use std::sync::Wait;
 use std::test::Fail;
@@ -17,6 +17,12 @@ fn source_of(
 {
     let bytes = bytes.to_vec(alloc)?;
     Ok(MemSource::new(bytes, pieces.to_vec(alloc)?, fail_at.to_vec(alloc)?))
+}
+
+fn no_files(alloc: Global) -> MemFiles
+    ensures { ⟦<MemFiles as Files>⟧.faults result ≡ 0 }
+{
+    MemFiles::new(Vec::new(alloc), Vec::new(alloc))
 }
 
 fn sink_of(alloc: Global, fail_at: &[u64]) -> Result<MemSink, AllocError>
@@ -60,7 +66,14 @@ fn checked<R: Threads + Wait + Sync>(
     let words = [String::from_str(alloc, "text")?];
     let mut source = source_of(alloc, input, pieces, &[])?;
     let mut sink = sink_of(alloc, &[])?;
-    let ended = run(rt, alloc, &words, &mut source, &mut sink);
+    let ended = run(
+        rt,
+        alloc,
+        &words,
+        &mut no_files(alloc),
+        &mut source,
+        &mut sink,
+    );
     Ok((ended.status, sink.held))
 }
 
@@ -176,7 +189,14 @@ fn other_words(rt: HostRuntime) -> Result<(), Fail> {
         }
         let mut source = source_of(alloc, b"nil", &[], &[])?;
         let mut sink = sink_of(alloc, &[])?;
-        let ended = run(&rt, alloc, list.as_slice(), &mut source, &mut sink);
+        let ended = run(
+            &rt,
+            alloc,
+            list.as_slice(),
+            &mut no_files(alloc),
+            &mut source,
+            &mut sink,
+        );
         assert_eq!(rt; ended.status, 2);
         assert_eq!(rt;
             sink.held.as_slice(),
@@ -193,7 +213,14 @@ fn a_source_that_fails_at_each_of_its_reads(rt: HostRuntime) -> Result<(), Fail>
     for call in 1..6 {
         let mut source = source_of(alloc, b"nil\n", &[1], &[call])?;
         let mut sink = sink_of(alloc, &[])?;
-        let ended = run(&rt, alloc, &words, &mut source, &mut sink);
+        let ended = run(
+            &rt,
+            alloc,
+            &words,
+            &mut no_files(alloc),
+            &mut source,
+            &mut sink,
+        );
         assert_eq!(rt; ended.status, 3);
         assert_eq!(rt; sink.held.as_slice(), b"".as_slice());
     }
@@ -207,7 +234,14 @@ fn a_sink_that_fails_or_takes_one_byte_at_a_time(rt: HostRuntime) -> Result<(), 
     let report = b"stdin.rb:1:1: 9000 not built yet\n";
     let mut source = source_of(alloc, b")", &[], &[])?;
     let mut sink = sink_of(alloc, &[1])?;
-    let ended = run(&rt, alloc, &words, &mut source, &mut sink);
+    let ended = run(
+        &rt,
+        alloc,
+        &words,
+        &mut no_files(alloc),
+        &mut source,
+        &mut sink,
+    );
     assert_eq!(rt; ended.status, 4);
     assert_eq!(rt; sink.held.as_slice(), b"".as_slice());
     for room in [0, 1, 20, report.len() - 1, report.len(), 100] {
@@ -217,7 +251,14 @@ fn a_sink_that_fails_or_takes_one_byte_at_a_time(rt: HostRuntime) -> Result<(), 
             room,
             faults: 0,
         };
-        let ended = run(&rt, alloc, &words, &mut source, &mut sink);
+        let ended = run(
+            &rt,
+            alloc,
+            &words,
+            &mut no_files(alloc),
+            &mut source,
+            &mut sink,
+        );
         let whole = room >= report.len();
         assert_eq!(rt; ended.status, if whole { 1 } else { 4 });
         assert_eq!(rt; sink.held.len(), if whole { report.len() } else { room });

@@ -1,7 +1,8 @@
 ghost use Rattle.std.specs.Prelude.{◌≡◌, ◌-◌, ◌^◌, ◌<◌, map, string_bytes};
+ghost use Rattle.std.specs.Option.{option_copied};
 ghost use Rattle.srb_terms.specs.Statuses.{status_of};
 ghost use Rattle.srb_terms.specs.declared.cause.Cause.TheVariants.{Usage};
-ghost use Rattle.srb_cli.specs.Usage.{is_text, usage_line};
+ghost use Rattle.srb_cli.specs.Usage.{is_text, names_folder, served_folder, usage_line};
 ghost use Rattle.srb_cli.specs.Ends.{UsageWritten};
 
 use srb_io::{Sink, write_all};
@@ -17,6 +18,26 @@ pub fn is_text(words: &[String]) -> bool
     match words {
         [word] => word.as_str() == "text",
         _ => false,
+    }
+}
+
+/// Whether the word names a folder: it isn't empty and doesn't begin with `-`.
+fn names_folder(word: &str) -> bool
+    ensures { result ≡ names_folder word.now }
+{
+    match word.as_bytes() {
+        [] => false,
+        [byte, ..] => *byte != b'-',
+    }
+}
+
+/// The folder that is served, where the words are those of the command `lsp DIR`.
+pub fn served_folder(words: &[String]) -> Option<&str>
+    ensures { option_copied result ≡ served_folder (map string_bytes words.now) }
+{
+    match words {
+        [word, dir] if word.as_str() == "lsp" && names_folder(dir.as_str()) => Some(dir.as_str()),
+        _ => None,
     }
 }
 

@@ -1,0 +1,7 @@
+pub mod Complete
+pub mod Deeds
+pub mod Folders
+pub mod Hearing
+pub mod Lasting
+pub mod Rounds
+pub mod Sessions

@@ -1,0 +1,59 @@
+-- What the outside tells of a call.
+use Rattle.std.specs.Prelude.{◌≡◌, ℕ, List, Option}
+use Rattle.std.specs.Io.KnownBytes.{Appends, Consumes}
+use Rattle.srb_io.specs.Counts.{HasRisen}
+use Rattle.srb_io.specs.Files.{File}
+use Rattle.srb_io.specs.Told.{AppendsPart}
+
+-- the bytes that the source had left before the call and has behind it, those that the sink held and holds, and the
+-- counts of failed reads and writes before and behind it
+pub record Course : Type 0 where
+  pub left_before : Option (List ℕ)
+  pub left_behind : Option (List ℕ)
+  pub held_before : Option (List ℕ)
+  pub held_behind : Option (List ℕ)
+  pub reads_before : ℕ
+  pub reads_behind : ℕ
+  pub writes_before : ℕ
+  pub writes_behind : ℕ
+
+-- the files below each folder, by its name, and the counts of failed calls on them before and behind the call
+pub record Listing : Type 0 where
+  pub told : List ℕ → Option (List File)
+  pub failed_before : ℕ
+  pub failed_behind : ℕ
+
+-- no call on the files failed, no read failed, and no write failed
+abbrev pub NoFileFailed : Listing → Type 0
+NoFileFailed f = f.failed_behind ≡ f.failed_before
+
+abbrev pub NoReadFailed : Course → Type 0
+NoReadFailed c = c.reads_behind ≡ c.reads_before
+
+abbrev pub NoWriteFailed : Course → Type 0
+NoWriteFailed c = c.writes_behind ≡ c.writes_before
+
+abbrev pub AReadFailed : Course → Type 0
+AReadFailed c = HasRisen c.reads_before c.reads_behind
+
+abbrev pub AWriteFailed : Course → Type 0
+AWriteFailed c = HasRisen c.writes_before c.writes_behind
+
+-- the source gave just these bytes
+abbrev pub Reads : Course → List ℕ → Type 0
+Reads c bytes = Consumes c.left_before c.left_behind bytes
+
+-- just these bytes were written
+abbrev pub Writes : Course → List ℕ → Type 0
+Writes c bytes = Appends c.held_before c.held_behind bytes
+
+-- a first part of these bytes was written, and not all of them
+abbrev pub WritesPart : Course → List ℕ → Type 0
+WritesPart c bytes = AppendsPart c.held_before c.held_behind bytes
+
+-- nothing was read of the source, nothing was written, and nothing of the two failed
+pub record IsUntouched (c : Course) : Type 0 where
+  pub unread : c.left_behind ≡ c.left_before
+  pub unwritten : c.held_behind ≡ c.held_before
+  pub reads : NoReadFailed c
+  pub writes : NoWriteFailed c

@@ -1,0 +1,347 @@
+ghost use Rattle.std.specs.Prelude.{◌≡◌, IfOk};
+
+use crate::commands::run;
+use srb_io::{Files, MemFiles, MemSink, MemSource, Sink, Source};
+use std::alloc::{AllocError, Global};
+use std::sync::Wait;
+use std::test::Fail;
+use std::thread::Threads;
+
+const INITIALIZE: &str =
+    r#"{"id":1,"jsonrpc":"2.0","method":"initialize","params":{"capabilities":{},"rootUri":"file:///p"}}"#;
+
+const OPEN: &str =
+    r##"{"jsonrpc":"2.0","method":"textDocument/didOpen","params":{"textDocument":{"uri":"file:///p/a.rb","languageId":"ruby","version":1,"text":"# typed: true\nx = T.let(\"a\", Integer)\n"}}}"##;
+
+const SHUTDOWN: &str = r#"{"id":2,"jsonrpc":"2.0","method":"shutdown"}"#;
+
+const EXIT: &str = r#"{"jsonrpc":"2.0","method":"exit"}"#;
+
+const INITIALIZED: &str =
+    r#"{"id":1,"jsonrpc":"2.0","result":{"capabilities":{"positionEncoding":"utf-16","textDocumentSync":{"change":2,"openClose":true,"save":{"includeText":false}}},"serverInfo":{"name":"srb"}}}"#;
+
+const LIST: &str =
+    r#"{"jsonrpc":"2.0","method":"textDocument/publishDiagnostics","params":{"diagnostics":[{"code":7007,"message":"expected Integer, found String","range":{"end":{"character":13,"line":1},"start":{"character":10,"line":1}},"severity":1,"source":"srb"}],"epoch":1,"uri":"file:///p/a.rb"}}"#;
+
+const NULL: &str = r#"{"id":2,"jsonrpc":"2.0","result":null}"#;
+
+/// The frames of these bodies.
+fn frames_of(alloc: Global, bodies: &[&str]) -> Result<Vec<u8>, AllocError> {
+    let mut frames = Vec::new(alloc);
+    for body in bodies {
+        let size = body.len();
+        let frame = format!(in alloc; "Content-Length: {size}\r\n\r\n{body}")?;
+        frames.extend_from_slice(frame.as_bytes())?;
+    }
+    Ok(frames)
+}
+
+fn source_of(bytes: Vec<u8>, pieces: Vec<u32>, fail_at: Vec<u64>) -> MemSource
+    ensures { ⟦<MemSource as Source>⟧.faults result ≡ 0 }
+{
+    MemSource::new(bytes, pieces, fail_at)
+}
+
+fn sink_of(alloc: Global, fail_at: Vec<u64>) -> MemSink
+    ensures { ⟦<MemSink as Sink>⟧.faults result ≡ 0 }
+{
+    MemSink::new(Vec::new(alloc), fail_at)
+}
+
+/// The files at these paths with these texts.
+fn files_of(alloc: Global, files: &[(&str, &str)]) -> Result<MemFiles, AllocError>
+    ensures { IfOk result (λ f. ⟦<MemFiles as Files>⟧.faults f ≡ 0) }
+{
+    let mut list = Vec::new(alloc);
+    for (path, text) in files {
+        list.push((
+            String::from_str(alloc, path)?,
+            text.as_bytes().to_vec(alloc)?,
+        ))?;
+    }
+    Ok(MemFiles::new(list, Vec::new(alloc)))
+}
+
+/// The status of a session over these, and what its sink holds then.
+fn ended_on<R: Threads + Wait + Sync>(
+    rt: &R,
+    alloc: Global,
+    mut files: MemFiles,
+    mut source: MemSource,
+    mut sink: MemSink,
+) -> Result<(u8, Vec<u8>), AllocError>
+    requires files { ⟦<MemFiles as Files>⟧.faults files ≡ 0 }
+    requires source { ⟦<MemSource as Source>⟧.faults source ≡ 0 }
+    requires sink { ⟦<MemSink as Sink>⟧.faults sink ≡ 0 }
+{
+    let words = [
+        String::from_str(alloc, "lsp")?,
+        String::from_str(alloc, "d")?,
+    ];
+    let ended = run(rt, alloc, &words, &mut files, &mut source, &mut sink);
+    Ok((ended.status, sink.held))
+}
+
+/// The status of a session over these files whose input is these bytes, and what it writes.
+fn served<R: Threads + Wait + Sync>(
+    rt: &R,
+    alloc: Global,
+    files: &[(&str, &str)],
+    input: &[u8],
+    pieces: &[u32],
+) -> Result<(u8, Vec<u8>), AllocError> {
+    let files = files_of(alloc, files)?;
+    let source = source_of(input.to_vec(alloc)?, pieces.to_vec(alloc)?, Vec::new(alloc));
+    let sink = sink_of(alloc, Vec::new(alloc));
+    ended_on(rt, alloc, files, source, sink)
+}
+
+/// Whether a session over these files that reads these bodies writes those and ends with this status, in one piece and in
+/// single bytes.
+fn is_served<R: Threads + Wait + Sync>(
+    rt: &R,
+    alloc: Global,
+    files: &[(&str, &str)],
+    bodies: &[&str],
+    written: &[&str],
+    status: u8,
+) -> Result<bool, AllocError> {
+    let input = frames_of(alloc, bodies)?;
+    let output = frames_of(alloc, written)?;
+    let whole = served(rt, alloc, files, input.as_slice(), &[])?;
+    let bytewise = served(rt, alloc, files, input.as_slice(), &[1])?;
+    Ok(
+        whole.0 == status
+            && whole.1.as_slice() == output.as_slice()
+            && bytewise.0 == status
+            && bytewise.1.as_slice() == output.as_slice(),
+    )
+}
+
+#[test]
+fn a_session_on_an_empty_folder(rt: HostRuntime) -> Result<(), Fail> {
+    let bodies = [INITIALIZE, OPEN, SHUTDOWN, EXIT];
+    let written = [INITIALIZED, LIST, NULL];
+    assert!(rt; is_served(&rt, rt.alloc(), &[], &bodies, &written, 0)?);
+    assert_eq!(rt; NULL.len(), 38);
+    Ok(())
+}
+
+/// What is read, what is written, and the status.
+const ROWS: [(&[&str], &[&str], u8); 8] = [
+    // before `initialize` and after `shutdown`
+    (
+        &[
+            r#"{"jsonrpc":"2.0","id":7,"method":"textDocument/hover"}"#,
+            EXIT,
+        ],
+        &[r#"{"error":{"code":-32002,"message":"server not initialized"},"id":7,"jsonrpc":"2.0"}"#],
+        1,
+    ),
+    (
+        &[
+            INITIALIZE,
+            SHUTDOWN,
+            r#"{"jsonrpc":"2.0","id":3,"method":"textDocument/hover"}"#,
+            EXIT,
+        ],
+        &[
+            INITIALIZED,
+            NULL,
+            r#"{"error":{"code":-32600,"message":"invalid request"},"id":3,"jsonrpc":"2.0"}"#,
+        ],
+        0,
+    ),
+    // without `shutdown`, and without `exit`
+    (&[INITIALIZE, OPEN, EXIT], &[INITIALIZED, LIST], 1),
+    (&[INITIALIZE, OPEN, SHUTDOWN], &[INITIALIZED, LIST, NULL], 1),
+    (&[INITIALIZE], &[INITIALIZED], 1),
+    // a change of a file that isn't open: no edit is counted
+    (
+        &[
+            INITIALIZE,
+            r#"{"jsonrpc":"2.0","method":"textDocument/didChange","params":{"textDocument":{"uri":"file:///p/z.rb","version":2},"contentChanges":[{"text":""}]}}"#,
+            OPEN,
+            SHUTDOWN,
+            EXIT,
+        ],
+        &[
+            INITIALIZED,
+            r#"{"jsonrpc":"2.0","method":"window/logMessage","params":{"message":"refused textDocument/didChange: not open","type":1}}"#,
+            LIST,
+            NULL,
+        ],
+        0,
+    ),
+    // no message
+    (
+        &["{}"],
+        &[r#"{"error":{"code":-32600,"message":"invalid request"},"id":null,"jsonrpc":"2.0"}"#],
+        1,
+    ),
+    // a URI that isn't one of the project
+    (
+        &[
+            INITIALIZE,
+            r#"{"jsonrpc":"2.0","method":"textDocument/didOpen","params":{"textDocument":{"uri":"untitled:1","languageId":"ruby","version":1,"text":"nil"}}}"#,
+        ],
+        &[
+            INITIALIZED,
+            r#"{"jsonrpc":"2.0","method":"window/logMessage","params":{"message":"refused textDocument/didOpen: not in the project","type":1}}"#,
+        ],
+        1,
+    ),
+];
+
+#[test]
+fn sessions_of_other_forms(rt: HostRuntime) -> Result<(), Fail> {
+    for (bodies, written, status) in ROWS {
+        assert!(rt; is_served(&rt, rt.alloc(), &[], bodies, written, status)?);
+    }
+    Ok(())
+}
+
+/// A file whose name has a blank: its URI is escaped, and read back.
+#[test]
+fn a_blank_in_a_path(rt: HostRuntime) -> Result<(), Fail> {
+    let files = [("a b.rb", "# typed: true\nT.reveal_type(nil)\n")];
+    let bodies = [
+        INITIALIZE,
+        r#"{"jsonrpc":"2.0","method":"textDocument/didOpen","params":{"textDocument":{"uri":"file:///p/a%20b.rb","languageId":"ruby","version":1,"text":""}}}"#,
+    ];
+    let written = [
+        INITIALIZED,
+        r#"{"jsonrpc":"2.0","method":"textDocument/publishDiagnostics","params":{"diagnostics":[{"code":7014,"message":"type is NilClass","range":{"end":{"character":18,"line":1},"start":{"character":0,"line":1}},"severity":1,"source":"srb"}],"epoch":0,"uri":"file:///p/a%20b.rb"}}"#,
+        r#"{"jsonrpc":"2.0","method":"textDocument/publishDiagnostics","params":{"diagnostics":[],"epoch":1,"uri":"file:///p/a%20b.rb"}}"#,
+    ];
+    assert!(rt; is_served(&rt, rt.alloc(), &files, &bodies, &written, 1)?);
+    Ok(())
+}
+
+/// Ranges count UTF-16 units: the second change puts `1` in the place of what the first one left of a pair.
+#[test]
+fn changes_of_ranges(rt: HostRuntime) -> Result<(), Fail> {
+    let bodies = [
+        INITIALIZE,
+        r##"{"jsonrpc":"2.0","method":"textDocument/didOpen","params":{"textDocument":{"uri":"file:///p/a.rb","languageId":"ruby","version":1,"text":"# typed: true\n# 😀😀\nnil\n"}}}"##,
+        r#"{"jsonrpc":"2.0","method":"textDocument/didChange","params":{"textDocument":{"uri":"file:///p/a.rb","version":2},"contentChanges":[{"range":{"start":{"line":1,"character":3},"end":{"line":1,"character":6}},"text":""},{"range":{"start":{"line":1,"character":0},"end":{"line":2,"character":3}},"text":"T.reveal_type(1)"}]}}"#,
+        SHUTDOWN,
+        EXIT,
+    ];
+    let written = [
+        INITIALIZED,
+        r#"{"jsonrpc":"2.0","method":"textDocument/publishDiagnostics","params":{"diagnostics":[{"code":9000,"message":"not built yet","range":{"end":{"character":0,"line":0},"start":{"character":0,"line":0}},"severity":1,"source":"srb"}],"epoch":1,"uri":"file:///p/a.rb"}}"#,
+        r#"{"jsonrpc":"2.0","method":"textDocument/publishDiagnostics","params":{"diagnostics":[{"code":7014,"message":"type is Integer","range":{"end":{"character":16,"line":1},"start":{"character":0,"line":1}},"severity":1,"source":"srb"}],"epoch":2,"uri":"file:///p/a.rb"}}"#,
+        NULL,
+    ];
+    assert!(rt; is_served(&rt, rt.alloc(), &[], &bodies, &written, 0)?);
+    Ok(())
+}
+
+/// Input that is no list of frames: what was read before it is checked first.
+#[test]
+fn input_that_breaks(rt: HostRuntime) -> Result<(), Fail> {
+    let alloc = rt.alloc();
+    let output = frames_of(alloc, &[INITIALIZED, LIST])?;
+    for (last, status) in [
+        (b"Content-Type: x\r\n\r\n".as_slice(), 5u8),
+        (b"Content-Length: 16777217\r\n\r\n", 6),
+        (b"Content-Length: 3\r\n\r\n{}", 5),
+    ] {
+        let mut input = frames_of(alloc, &[INITIALIZE, OPEN])?;
+        input.extend_from_slice(last)?;
+        let (ended, written) = served(&rt, alloc, &[], input.as_slice(), &[])?;
+        assert_eq!(rt; ended, status);
+        assert_eq!(rt; written.as_slice(), output.as_slice());
+    }
+    Ok(())
+}
+
+/// The third write of a session fails.
+#[test]
+fn a_write_that_fails(rt: HostRuntime) -> Result<(), Fail> {
+    let alloc = rt.alloc();
+    let input = frames_of(alloc, &[INITIALIZE, OPEN, SHUTDOWN, EXIT])?;
+    let source = source_of(input, Vec::new(alloc), Vec::new(alloc));
+    let sink = sink_of(alloc, vec![in alloc; 3u64; 1]?);
+    let files = files_of(alloc, &[])?;
+    let (status, written) = ended_on(&rt, alloc, files, source, sink)?;
+    assert_eq!(rt; status, 4);
+    let output = frames_of(alloc, &[INITIALIZED, LIST])?;
+    assert_eq!(rt; written.as_slice(), output.as_slice());
+    Ok(())
+}
+
+/// The second read of a session fails: what the first one gave is checked first.
+#[test]
+fn a_read_that_fails(rt: HostRuntime) -> Result<(), Fail> {
+    let alloc = rt.alloc();
+    let input = frames_of(alloc, &[INITIALIZE, OPEN])?;
+    let source = source_of(input, Vec::new(alloc), vec![in alloc; 2u64; 1]?);
+    let sink = sink_of(alloc, Vec::new(alloc));
+    let files = files_of(alloc, &[])?;
+    let (status, written) = ended_on(&rt, alloc, files, source, sink)?;
+    assert_eq!(rt; status, 3);
+    let output = frames_of(alloc, &[INITIALIZED, LIST])?;
+    assert_eq!(rt; written.as_slice(), output.as_slice());
+    Ok(())
+}
+
+/// The status of a session over these files that has no input, and how many bytes it writes.
+fn begun<R: Threads + Wait + Sync>(
+    rt: &R,
+    alloc: Global,
+    files: MemFiles,
+) -> Result<(u8, usize), AllocError>
+    requires { ⟦<MemFiles as Files>⟧.faults files ≡ 0 }
+{
+    let source = source_of(Vec::new(alloc), Vec::new(alloc), Vec::new(alloc));
+    let sink = sink_of(alloc, Vec::new(alloc));
+    let (status, written) = ended_on(rt, alloc, files, source, sink)?;
+    Ok((status, written.len()))
+}
+
+/// So many files of so many bytes, and one more of this size.
+fn many_files(alloc: Global, count: usize, size: usize, last: usize) -> Result<MemFiles, AllocError>
+    ensures { IfOk result (λ f. ⟦<MemFiles as Files>⟧.faults f ≡ 0) }
+{
+    let mut list = Vec::new(alloc);
+    for n in 0..count {
+        let path = format!(in alloc; "{n}.rb")?;
+        list.push((path, vec![in alloc; b'\n'; size]?))?;
+    }
+    list.push((
+        String::from_str(alloc, "z.rb")?,
+        vec![in alloc; b'\n'; last]?,
+    ))?;
+    Ok(MemFiles::new(list, Vec::new(alloc)))
+}
+
+#[test]
+fn too_many_files(rt: HostRuntime) -> Result<(), Fail> {
+    let files = many_files(rt.alloc(), 4096, 0, 0)?;
+    assert_eq!(rt; begun(&rt, rt.alloc(), files)?, (6, 0));
+    Ok(())
+}
+
+#[test]
+fn as_many_bytes_as_there_may_be_and_one_more(rt: HostRuntime) -> Result<(), Fail> {
+    let files = many_files(rt.alloc(), 16, 1_048_576, 0)?;
+    assert_eq!(rt; begun(&rt, rt.alloc(), files)?, (1, 0));
+    let files = many_files(rt.alloc(), 16, 1_048_576, 1)?;
+    assert_eq!(rt; begun(&rt, rt.alloc(), files)?, (6, 0));
+    Ok(())
+}
+
+/// The folder can't be listed, or its file can't be read.
+#[test]
+fn a_folder_that_fails(rt: HostRuntime) -> Result<(), Fail> {
+    let alloc = rt.alloc();
+    for call in [1u64, 2] {
+        let mut files = Vec::new(alloc);
+        files.push((String::from_str(alloc, "a.rb")?, Vec::new(alloc)))?;
+        let files = MemFiles::new(files, vec![in alloc; call; 1]?);
+        assert_eq!(rt; begun(&rt, alloc, files)?, (3, 0));
+    }
+    Ok(())
+}

@@ -1,0 +1,40 @@
+-- A session of Neovim with `srb lsp`, in a folder with the wrong file `a.rb`: its error is shown, it follows an edit, and it
+-- goes with it. Ends with status 0 where all was seen.
+local function fail(what)
+  io.stderr:write("not seen: " .. what .. "\n")
+  vim.cmd("cquit 1")
+end
+
+-- Waits until just these messages are shown of the buffer.
+local function shows(what, messages)
+  local function same()
+    local shown = {}
+    for _, diagnostic in ipairs(vim.diagnostic.get(0)) do
+      table.insert(shown, diagnostic.message)
+    end
+    return vim.deep_equal(shown, messages)
+  end
+  if not vim.wait(10000, same, 10) then
+    fail(what .. ": " .. vim.inspect(vim.diagnostic.get(0)))
+  end
+  io.stdout:write(what .. ": " .. vim.inspect(messages) .. "\n")
+end
+
+local function second_line(text)
+  vim.api.nvim_buf_set_lines(0, 1, 2, false, { text })
+end
+
+vim.cmd("filetype on")
+vim.cmd("edit a.rb")
+shows("opened", { "expected Integer, found String" })
+second_line("x = T.let(1, NilClass)")
+shows("edited", { "expected NilClass, found Integer" })
+second_line("x = T.let(1, Integer)")
+shows("mended", {})
+second_line("x = T.reveal_type(nil)")
+shows("asked", { "type is NilClass" })
+second_line("# 😀")
+shows("outside a thin text", { "not built yet" })
+second_line("nil")
+shows("gone", {})
+vim.cmd("qall!")
