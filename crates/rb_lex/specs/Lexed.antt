@@ -1,5 +1,5 @@
 -- The tokens of a text, or its first refused place, by one pass from the front.
-use Rattle.std.specs.Prelude.{◌≡◌, ℕ, zero, suc, ◌+◌, ◌-◌, Bool, true, false, not, ◌||◌, ◌&&◌, if◌then◌else◌, List, [], ◌∷◌, ◌++◌, length, take, slice_index, slice_get, Option, Some, None, is_some, Result, Ok, Err}
+use Rattle.std.specs.Prelude.{◌≡◌, ℕ, zero, suc, ◌+◌, ◌-◌, ◌<◌, Bool, true, false, not, ◌||◌, ◌&&◌, if◌then◌else◌, List, [], ◌∷◌, ◌++◌, length, take, slice_index, slice_get, Option, Some, None, is_some, Result, Ok, Err}
 use Rattle.std.specs.List.{list_any}
 use Rattle.std.specs.Str.{encode_utf8_all}
 use Rattle.rb_tree.specs.Tokens.{same_shape, plain_kind}
@@ -138,6 +138,11 @@ code_step at z s =
     ]
 
 -- ---- steps in strings
+
+-- the quote of the open string is ASCII
+abbrev pub IsQuoted : Option Opened → Type 0
+IsQuoted None = Unit {0}
+IsQuoted (Some o) = o.quote < 128
 
 -- behind a string, which is an operand's end, or behind its `#{`
 abbrev pub left : Bool → State → State

@@ -1,6 +1,7 @@
 //! The loop over a text.
 
 ghost use Rattle.std.specs.Prelude.{◌≡◌, ◌≤◌, length};
+ghost use Rattle.std.specs.Str.{IsUtf8};
 ghost use Rattle.rb_lex.specs.Lexed.{Gives, lexed};
 
 use crate::LexEnd;
@@ -11,7 +12,8 @@ use std::alloc::Global;
 
 /// The tokens of the bytes of a text.
 pub fn lex_bytes(alloc: Global, text: &[u8]) -> Result<Vec<Token>, LexEnd>
-    requires { length text.now ≤ 16777216 }
+    requires small { length text.now ≤ 16777216 }
+    requires text { IsUtf8 text.now }
     ensures { Gives (λ v. v.items) result (lexed text.now) }
 {
     let mut state = State::new(alloc);

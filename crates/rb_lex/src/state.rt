@@ -2,7 +2,8 @@
 
 ghost use Rattle.std.specs.Prelude.{◌≡◌, ◌≢◌, ◌<◌, ◌≤◌, ◌+◌, ◌-◌, ◌^◌, length, slice_index, IfOk, OnOk, true, false};
 ghost use Rattle.std.specs.Option.{option_copied};
-ghost use Rattle.std.specs.Prelude.{◌||◌};
+ghost use Rattle.std.specs.Prelude.{◌||◌, take};
+ghost use Rattle.std.specs.Str.{IsUtf8};
 ghost use Rattle.rb_tree.specs.Tokens.{same_shape};
 ghost use Rattle.rb_lex.specs.Lexed as spec;
 ghost use Rattle.rb_lex.specs.Lexed.{Gives, IsNoMemory};
@@ -52,11 +53,12 @@ impl From<NoMemory> for LexEnd {
 }
 
 fn copied(alloc: Global, words: &[u8]) -> Result<Words, LexEnd>
+    requires { IsUtf8 words.now }
     ensures { Gives (λ w. w) result (Ok words.now) }
 {
     match std::str::from_utf8(words) {
         Ok(text) => Ok(Words::from_str(alloc, text)?),
-        Err(_) => Err(LexEnd::NoMemory),
+        Err(_) => unreachable!(),
     }
 }
 
@@ -82,6 +84,7 @@ fn words_of(shape: Shape, len: usize, z: &[u8]) -> &[u8]
 }
 
 fn named_kind(alloc: Global, shape: Shape, words: &[u8]) -> Result<TokenKind, LexEnd>
+    requires { IsUtf8 words.now }
     ensures { Gives (λ k. k) result (Ok (spec.named_kind shape words.now)) }
 {
     let words = copied(alloc, words)?;
@@ -112,6 +115,7 @@ fn named(shape: Shape, words: Words) -> TokenKind
 
 #[tactic(auto, unfolding(crate::specs::Lexed::kind_of))]
 fn kind_of(alloc: Global, shape: Shape, words: &[u8]) -> Result<TokenKind, LexEnd>
+    requires { IsUtf8 words.now }
     ensures { Gives (λ k. k) result (Ok (spec.kind_of shape words.now)) }
 {
     match shape.plain() {
@@ -239,6 +243,7 @@ impl State {
         requires within { lexeme.len ≤ length z.now }
         requires moves { 0 < lexeme.len }
         requires fits { at + length z.now < 2 ^ 31 }
+        requires text { IsUtf8 (spec.words_of lexeme.shape lexeme.len z.now) }
         ensures { Gives (λ _. self.new) result (Ok (spec.accepted lexeme at z.now self.old)) }
     {
         let end = at + lexeme.len as u32;
@@ -251,7 +256,7 @@ impl State {
         self.nest(lexeme.shape, end)
     }
 
-    #[tactic(auto, unfolding(crate::specs::Lexed::code_step))]
+    #[tactic(auto, using(crate::proofs::Boundaries::token_text), unfolding(crate::specs::Lexed::code_step))]
     fn code_step(&mut self, alloc: Global, at: u32, z: &[u8]) -> Result<usize, LexEnd>
         requires some { 0 < length z.now }
         requires fits { at + length z.now < 2 ^ 31 }
@@ -310,6 +315,7 @@ impl State {
         start: u32,
         end: u32,
     ) -> Result<(), LexEnd>
+        requires { IsUtf8 piece.now }
         ensures { Gives (λ _. self.new) result (Ok (spec.pushed (TokenKind.Text piece.now) start end self.old)) }
     {
         let words = copied(alloc, piece)?;
@@ -326,6 +332,7 @@ impl State {
     ) -> Result<usize, LexEnd>
         requires within { len < length z.now }
         requires fits { at + length z.now < 2 ^ 31 }
+        requires text { IsUtf8 (take len z.now) }
         ensures value { Gives (λ n. (n, self.new)) result (spec.quoted opened at len z.now self.old) }
         ensures within { IfOk result (λ n. (0 < n) × (n ≤ length z.now)) }
     {
@@ -348,6 +355,7 @@ impl State {
     ) -> Result<usize, LexEnd>
         requires within { len + 1 < length z.now }
         requires fits { at + length z.now < 2 ^ 31 }
+        requires text { IsUtf8 (take len z.now) }
         ensures value { Gives (λ n. (n, self.new)) result (spec.interpolated opened at len z.now self.old) }
         ensures within { IfOk result (λ n. (0 < n) × (n ≤ length z.now)) }
     {
@@ -368,6 +376,8 @@ impl State {
         z: &[u8],
     ) -> Result<usize, LexEnd>
         requires fits { at + length z.now < 2 ^ 31 }
+        requires text { IsUtf8 z.now }
+        requires quote { opened.quote < 128 }
         ensures value { Gives (λ n. (n, self.new)) result (spec.string_step opened at z.now self.old) }
         ensures within { IfOk result (λ n. (0 < n) × (n ≤ length z.now)) }
     {
@@ -389,6 +399,8 @@ impl State {
     pub fn step(&mut self, alloc: Global, at: u32, z: &[u8]) -> Result<usize, LexEnd>
         requires some { 0 < length z.now }
         requires fits { at + length z.now < 2 ^ 31 }
+        requires text { IsUtf8 z.now }
+        requires quote { spec.IsQuoted self.old.string }
         ensures value { Gives (λ n. (n, self.new)) result (spec.step at z.now self.old) }
         ensures within { IfOk result (λ n. (0 < n) × (n ≤ length z.now)) }
     {
