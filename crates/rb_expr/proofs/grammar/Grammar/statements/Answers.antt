@@ -1,0 +1,40 @@
+use Rattle.std.proofs.Common.{rules, arith}
+use Rattle.std.proofs.lemmas.Grind.{common_steps}
+use Rattle.rb_expr.specs.Statements.{body_from, statements}
+use Rattle.rb_expr.specs.Grammar.{parsed}
+use Rattle.rb_expr.proofs.Turns.{none_left, turn_left}
+use Rattle.rb_expr.proofs.grammar.Grammar.statements.Goals as goal
+
+pub loop-turn-init : goal.loop-turn-init
+unfolding statements
+loop-turn-init g c = first_of (search rules, grind (arith, common_steps))
+
+pub returns-then-not-begins_statement : goal.returns-then-not-begins_statement
+unfolding body_from
+returns-then-not-begins_statement g c =
+    let e = turn_left (λ n. body_from (parsed c.args.self.now.depth) c.args.self.now.depth c.args.self.now.takes_do c.args.constants c.body_start-start.result c.loop-turn.end n c.loop-turn.found c.loop-turn.rest.now) _ c.loop-turn._turn c.loop-turn-test.true c.loop-turn.invariant in
+    first_of (search rules, grind (arith, common_steps))
+
+pub returns-in_err-next : goal.returns-in_err-next
+unfolding body_from
+returns-in_err-next g c =
+    let e = turn_left (λ n. body_from (parsed c.args.self.now.depth) c.args.self.now.depth c.args.self.now.takes_do c.args.constants c.body_start-start.result c.loop-turn.end n c.loop-turn.found c.loop-turn.rest.now) _ c.loop-turn._turn c.loop-turn-test.true c.loop-turn.invariant in
+    first_of (search rules, grind (arith, common_steps))
+
+pub returns-then-not-sees : goal.returns-then-not-sees
+unfolding body_from
+returns-then-not-sees g c =
+    let e = turn_left (λ n. body_from (parsed c.args.self.now.depth) c.args.self.now.depth c.args.self.now.takes_do c.args.constants c.body_start-start.result c.loop-turn.end n c.loop-turn.found c.loop-turn.rest.now) _ c.loop-turn._turn c.loop-turn-test.true c.loop-turn.invariant in
+    first_of (search rules, grind (arith, common_steps))
+
+pub loop-turn-preserved : goal.loop-turn-preserved
+unfolding body_from
+loop-turn-preserved g c =
+    let e = turn_left (λ n. body_from (parsed c.args.self.now.depth) c.args.self.now.depth c.args.self.now.takes_do c.args.constants c.body_start-start.result c.loop-turn.end n c.loop-turn.found c.loop-turn.rest.now) _ c.loop-turn._turn c.loop-turn-test.true c.loop-turn.invariant in
+    first_of (search rules, grind (arith, common_steps))
+
+pub returns : goal.returns
+unfolding body_from
+returns g c =
+    let e = none_left (λ n. body_from (parsed c.args.self.now.depth) c.args.self.now.depth c.args.self.now.takes_do c.args.constants c.body_start-start.result c.loop-turn.end n c.loop-turn.found c.loop-turn.rest.now) _ c.loop-turn._turn c.loop-turn-test.false c.loop-turn.invariant in
+    first_of (search rules, grind (arith, common_steps))

@@ -1,0 +1,11 @@
+pub mod Reading
+pub mod Shapes
+pub mod Lists
+pub mod Calls
+pub mod Branches
+pub mod Operands
+pub mod Operators
+pub mod Statements
+pub mod Grammar
+pub mod Rules
+pub mod Answers

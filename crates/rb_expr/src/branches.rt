@@ -1,0 +1,243 @@
+//! `if`, `unless`, `while`, `until` and `case`, each with its `end`.
+
+ghost use Rattle.std.specs.Prelude.{◌≡◌};
+ghost use Rattle.rb_expr.specs.Branches as branches;
+ghost use Rattle.rb_expr.specs.Grammar.{Nests, parsed};
+ghost use Rattle.rb_expr.specs.Reading.{Gives};
+
+use crate::form::Form;
+use crate::grammar::Grammar;
+use crate::reading::{Read, Stop, after, expect, sees, skip_separators, take};
+use rb_tree::syntax::{Arm, Test, Tree, When};
+use rb_tree::token::{Shape, Token};
+use srb_terms::{Boxed, Items, Span};
+use std::alloc::Global;
+
+/// Passes over a `then`, if one comes next.
+fn after_then(tokens: &[Token]) -> &[Token]
+    ensures { result.now ≡ branches.after_then tokens.now }
+{
+    if sees(Shape::Then, tokens) {
+        after(tokens)
+    } else {
+        tokens
+    }
+}
+
+/// What stands between a condition and its body: `then`, or one separator and perhaps `then`.
+#[tactic(auto, unfolding(crate::specs::Branches::then_word))]
+fn then_word<'a>(tokens: &'a [Token]) -> Read<'a, Span>
+    ensures { Gives (λ x. (x.0, x.1.now)) result (branches.then_word tokens.now) }
+{
+    if sees(Shape::Then, tokens) {
+        return expect(Shape::Then, tokens);
+    }
+    let (mark, rest) = expect(Shape::Separator, tokens)?;
+    Ok((mark, after_then(rest)))
+}
+
+/// What stands between the condition of a loop and its body: `do`, or one separator.
+#[tactic(auto, unfolding(crate::specs::Branches::do_word))]
+fn do_word<'a>(tokens: &'a [Token]) -> Read<'a, Span>
+    ensures { Gives (λ x. (x.0, x.1.now)) result (branches.do_word tokens.now) }
+{
+    if sees(Shape::Do, tokens) {
+        expect(Shape::Do, tokens)
+    } else {
+        expect(Shape::Separator, tokens)
+    }
+}
+
+impl<
+    F: Fn(Global, usize, Form, bool, &[Token]) -> Result<(Boxed<Tree>, &[Token]), Stop<'_>>,
+> Grammar<F> {
+    /// `else` and a body, if they come next.
+    #[tactic(auto, unfolding(crate::specs::Branches::otherwise))]
+    fn otherwise<'a>(&self, tokens: &'a [Token]) -> Read<'a, Option<Boxed<Tree>>>
+        requires { Nests self.now.depth (F.pre self.now.nested) (F.post self.now.nested) }
+        ensures { Gives (λ x. (x.0, x.1.now)) result (branches.otherwise (parsed self.now.depth) self.now.depth self.now.takes_do tokens.now) }
+    {
+        if !sees(Shape::Else, tokens) {
+            return Ok((None, tokens));
+        }
+        let (body, rest) = self.form(Form::Body, self.takes_do, after(tokens))?;
+        Ok((Some(body), rest))
+    }
+
+    #[tactic(auto, unfolding(crate::specs::Branches::elsif_arm))]
+    fn elsif_arm<'a>(&self, tokens: &'a [Token]) -> Read<'a, Arm<Boxed<Tree>>>
+        requires { Nests self.now.depth (F.pre self.now.nested) (F.post self.now.nested) }
+        ensures { Gives (λ x. (x.0, x.1.now)) result (branches.elsif_arm (parsed self.now.depth) self.now.depth self.now.takes_do tokens.now) }
+    {
+        let (_, rest) = expect(Shape::Elsif, tokens)?;
+        let (condition, rest) = self.form(Form::Simple, self.takes_do, rest)?;
+        let (_, rest) = then_word(rest)?;
+        let (body, rest) = self.form(Form::Body, self.takes_do, rest)?;
+        Ok((Arm { condition, body }, rest))
+    }
+
+    fn elsif_arms<'a>(&self, tokens: &'a [Token]) -> Read<'a, Items<Arm<Boxed<Tree>>>>
+        requires { Nests self.now.depth (F.pre self.now.nested) (F.post self.now.nested) }
+        ensures { Gives (λ x. (x.0, x.1.now)) result (branches.elsif_arms (parsed self.now.depth) self.now.depth self.now.takes_do tokens.now) }
+    {
+        let mut found = Items::new(self.alloc);
+        let mut rest = tokens;
+        for _turn in 0..self.depth {
+            if !sees(Shape::Elsif, rest) {
+                return Ok((found, rest));
+            }
+            let (arm, behind) = self.elsif_arm(rest)?;
+            found.push(arm)?;
+            rest = behind;
+        }
+        Err(Stop::Refused(rest))
+    }
+
+    /// The `elsif` arms. An `unless` has none.
+    #[tactic(auto, unfolding(crate::specs::Branches::arms_of))]
+    fn arms_of<'a>(&self, test: Test, tokens: &'a [Token]) -> Read<'a, Items<Arm<Boxed<Tree>>>>
+        requires { Nests self.now.depth (F.pre self.now.nested) (F.post self.now.nested) }
+        ensures { Gives (λ x. (x.0, x.1.now)) result (branches.arms_of (parsed self.now.depth) self.now.depth self.now.takes_do test tokens.now) }
+    {
+        match test {
+            Test::Positive => self.elsif_arms(tokens),
+            Test::Negative => Ok((Items::new(self.alloc), tokens)),
+        }
+    }
+
+    /// `if` or `unless`, from that word on.
+    #[tactic(auto, unfolding(crate::specs::Branches::branch))]
+    pub fn branch<'a>(&self, test: Test, tokens: &'a [Token]) -> Read<'a, Boxed<Tree>>
+        requires { Nests self.now.depth (F.pre self.now.nested) (F.post self.now.nested) }
+        ensures { Gives (λ x. (x.0, x.1.now)) result (branches.branch (parsed self.now.depth) self.now.depth self.now.takes_do test tokens.now) }
+    {
+        let (mark, rest) = take(tokens)?;
+        let (condition, rest) = self.form(Form::Simple, self.takes_do, rest)?;
+        let (_, rest) = then_word(rest)?;
+        let (body, rest) = self.form(Form::Body, self.takes_do, rest)?;
+        let (arms, rest) = self.arms_of(test, rest)?;
+        let (otherwise, rest) = self.otherwise(rest)?;
+        let (closing, rest) = expect(Shape::End, rest)?;
+        let span = Span {
+            start: mark.start,
+            end: closing.end,
+        };
+        let tree = Tree::If {
+            test,
+            condition,
+            body,
+            arms,
+            otherwise,
+            span,
+        };
+        Ok((Boxed::new(self.alloc, tree)?, rest))
+    }
+
+    /// `while` or `until`, from that word on. Its condition takes no `do`.
+    #[tactic(auto, unfolding(crate::specs::Branches::repeated))]
+    pub fn repeated<'a>(&self, test: Test, tokens: &'a [Token]) -> Read<'a, Boxed<Tree>>
+        requires { Nests self.now.depth (F.pre self.now.nested) (F.post self.now.nested) }
+        ensures { Gives (λ x. (x.0, x.1.now)) result (branches.repeated (parsed self.now.depth) self.now.depth self.now.takes_do test tokens.now) }
+    {
+        let (mark, rest) = take(tokens)?;
+        let (condition, rest) = self.form(Form::Simple, false, rest)?;
+        let (_, rest) = do_word(rest)?;
+        let (body, rest) = self.form(Form::Body, self.takes_do, rest)?;
+        let (closing, rest) = expect(Shape::End, rest)?;
+        let span = Span {
+            start: mark.start,
+            end: closing.end,
+        };
+        let tree = Tree::While {
+            test,
+            condition,
+            body,
+            span,
+        };
+        Ok((Boxed::new(self.alloc, tree)?, rest))
+    }
+
+    /// What a `case` asks about, if it names that.
+    #[tactic(auto, unfolding(crate::specs::Branches::subject))]
+    fn subject<'a>(&self, tokens: &'a [Token]) -> Read<'a, Option<Boxed<Tree>>>
+        requires { Nests self.now.depth (F.pre self.now.nested) (F.post self.now.nested) }
+        ensures { Gives (λ x. (x.0, x.1.now)) result (branches.subject (parsed self.now.depth) self.now.depth self.now.takes_do tokens.now) }
+    {
+        if sees(Shape::Separator, tokens) || sees(Shape::When, tokens) {
+            return Ok((None, tokens));
+        }
+        let (subject, rest) = self.form(Form::Simple, self.takes_do, tokens)?;
+        Ok((Some(subject), rest))
+    }
+
+    fn patterns<'a>(&self, tokens: &'a [Token]) -> Read<'a, Items<Boxed<Tree>>>
+        requires { Nests self.now.depth (F.pre self.now.nested) (F.post self.now.nested) }
+        ensures { Gives (λ x. (x.0, x.1.now)) result (branches.patterns (parsed self.now.depth) self.now.depth self.now.takes_do tokens.now) }
+    {
+        let mut found = Items::new(self.alloc);
+        let mut rest = tokens;
+        for _turn in 0..self.depth {
+            let (pattern, behind) = self.form(Form::Tern, self.takes_do, rest)?;
+            found.push(pattern)?;
+            if !sees(Shape::Comma, behind) {
+                return Ok((found, behind));
+            }
+            rest = after(behind);
+        }
+        Err(Stop::Refused(rest))
+    }
+
+    #[tactic(auto, unfolding(crate::specs::Branches::when_arm))]
+    fn when_arm<'a>(&self, tokens: &'a [Token]) -> Read<'a, When<Boxed<Tree>>>
+        requires { Nests self.now.depth (F.pre self.now.nested) (F.post self.now.nested) }
+        ensures { Gives (λ x. (x.0, x.1.now)) result (branches.when_arm (parsed self.now.depth) self.now.depth self.now.takes_do tokens.now) }
+    {
+        let (_, rest) = expect(Shape::When, tokens)?;
+        let (patterns, rest) = self.patterns(rest)?;
+        let (_, rest) = then_word(rest)?;
+        let (body, rest) = self.form(Form::Body, self.takes_do, rest)?;
+        Ok((When { patterns, body }, rest))
+    }
+
+    /// The arms of a `case`, at least one.
+    fn when_arms<'a>(&self, tokens: &'a [Token]) -> Read<'a, Items<When<Boxed<Tree>>>>
+        requires { Nests self.now.depth (F.pre self.now.nested) (F.post self.now.nested) }
+        ensures { Gives (λ x. (x.0, x.1.now)) result (branches.when_arms (parsed self.now.depth) self.now.depth self.now.takes_do tokens.now) }
+    {
+        let mut found = Items::new(self.alloc);
+        let mut rest = tokens;
+        for _turn in 0..self.depth {
+            let (arm, behind) = self.when_arm(rest)?;
+            found.push(arm)?;
+            if !sees(Shape::When, behind) {
+                return Ok((found, behind));
+            }
+            rest = behind;
+        }
+        Err(Stop::Refused(rest))
+    }
+
+    /// `case`, from that word on.
+    #[tactic(auto, unfolding(crate::specs::Branches::choice))]
+    pub fn choice<'a>(&self, tokens: &'a [Token]) -> Read<'a, Boxed<Tree>>
+        requires { Nests self.now.depth (F.pre self.now.nested) (F.post self.now.nested) }
+        ensures { Gives (λ x. (x.0, x.1.now)) result (branches.choice (parsed self.now.depth) self.now.depth self.now.takes_do tokens.now) }
+    {
+        let (mark, rest) = take(tokens)?;
+        let (subject, rest) = self.subject(rest)?;
+        let (arms, rest) = self.when_arms(skip_separators(rest))?;
+        let (otherwise, rest) = self.otherwise(rest)?;
+        let (closing, rest) = expect(Shape::End, rest)?;
+        let span = Span {
+            start: mark.start,
+            end: closing.end,
+        };
+        let tree = Tree::Case {
+            subject,
+            arms,
+            otherwise,
+            span,
+        };
+        Ok((Boxed::new(self.alloc, tree)?, rest))
+    }
+}
