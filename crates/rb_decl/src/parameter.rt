@@ -1,0 +1,334 @@
+//! The parameters of a method.
+
+ghost use Rattle.std.specs.Prelude.{◌≡◌, IfOk, OnOk};
+ghost use Rattle.rb_expr.specs.Reading.{Gives};
+ghost use Rattle.rb_decl.specs.Parameters as spec;
+
+use indexmap::IndexSet;
+use rb_expr::reading::{Read, Stop, after, expect, sees, skip_separators};
+use rb_expr::rules::tern;
+use rb_tree::syntax::{Parameter, Tree};
+use rb_tree::token::{Shape, Token, TokenKind};
+use srb_terms::{Boxed, Items, Name, NoMemory, Span, Words};
+use std::alloc::Global;
+
+/// Which parameters may still come.
+#[derive(Clone, Copy, PartialEq, Eq, Debug)]
+pub enum Stage {
+    /// All.
+    Required,
+    /// Optional ones, keywords and a block.
+    Optional,
+    /// Keywords and a block.
+    Keyword,
+    /// None.
+    Block,
+}
+
+/// The name of a parameter.
+fn name_of(parameter: &Parameter<Boxed<Tree>>) -> &Name
+    ensures { result.now ≡ spec.name_of parameter.now }
+{
+    match parameter {
+        Parameter::Required { name, .. }
+        | Parameter::Optional { name, .. }
+        | Parameter::RequiredKeyword { name, .. }
+        | Parameter::OptionalKeyword { name, .. }
+        | Parameter::Block { name, .. } => name,
+    }
+}
+
+/// Which parameters may come behind such a one.
+fn stage_behind(parameter: &Parameter<Boxed<Tree>>) -> Stage
+    ensures { result ≡ spec.stage_behind parameter.now }
+{
+    match parameter {
+        Parameter::Required { .. } => Stage::Required,
+        Parameter::Optional { .. } => Stage::Optional,
+        Parameter::RequiredKeyword { .. } | Parameter::OptionalKeyword { .. } => Stage::Keyword,
+        Parameter::Block { .. } => Stage::Block,
+    }
+}
+
+/// Whether the name is one of these.
+fn is_among(names: &IndexSet<Name>, name: &Name) -> bool
+    ensures { result ≡ spec.is_among names.now.keys name.now }
+{
+    names.contains(name)
+}
+
+/// The name of these words, if it is none of these.
+#[tactic(auto, unfolding(crate::specs::Parameters::fresh))]
+fn fresh(alloc: Global, names: &IndexSet<Name>, words: &Words) -> Result<Option<Name>, NoMemory>
+    ensures { IfOk result (λ name. name ≡ spec.fresh names.now.keys words.now) }
+{
+    let name = Name::from_str(alloc, words.as_str())?;
+    if is_among(names, &name) {
+        return Ok(None);
+    }
+    Ok(Some(name))
+}
+
+/// Adds the name of a parameter, which is none of these.
+fn note(
+    alloc: Global,
+    names: &mut IndexSet<Name>,
+    parameter: &Parameter<Boxed<Tree>>,
+) -> Result<(), NoMemory>
+    ensures { OnOk result (names.new.keys ≡ spec.noted names.old.keys (spec.name_of parameter.now)) }
+{
+    let name = name_of(parameter).copied(alloc)?;
+    names.insert(name)?;
+    Ok(())
+}
+
+fn is_plain(stage: Stage) -> bool
+    ensures { result ≡ spec.is_plain stage }
+{
+    match stage {
+        Stage::Required | Stage::Optional => true,
+        _ => false,
+    }
+}
+
+fn is_first(stage: Stage) -> bool
+    ensures { result ≡ spec.is_first stage }
+{
+    match stage {
+        Stage::Required => true,
+        _ => false,
+    }
+}
+
+fn is_last(stage: Stage) -> bool
+    ensures { result ≡ spec.is_last stage }
+{
+    match stage {
+        Stage::Block => true,
+        _ => false,
+    }
+}
+
+/// Behind the name of a parameter that is no keyword.
+#[tactic(auto, unfolding(crate::specs::Parameters::plain))]
+fn plain<'a>(
+    alloc: Global,
+    depth: usize,
+    stage: Stage,
+    name: Name,
+    span: Span,
+    tokens: &'a [Token],
+) -> Read<'a, Parameter<Boxed<Tree>>>
+    ensures { Gives (λ x. (x.0, x.1.now)) result (spec.plain depth stage name span tokens.now) }
+{
+    if sees(Shape::Assign, tokens) {
+        let (default, rest) = tern(alloc, depth, after(tokens))?;
+        return Ok((
+            Parameter::Optional {
+                name,
+                span,
+                default,
+            },
+            rest,
+        ));
+    }
+    if !is_first(stage) {
+        return Err(Stop::Refused(tokens));
+    }
+    Ok((Parameter::Required { name, span }, tokens))
+}
+
+/// Whether no default stands behind the label of a keyword.
+fn has_no_default(tokens: &[Token]) -> bool
+    ensures { result ≡ spec.has_no_default tokens.now }
+{
+    sees(Shape::Comma, tokens) || sees(Shape::CloseParen, tokens) || sees(Shape::Separator, tokens)
+}
+
+/// Behind the label of a keyword.
+#[tactic(auto, unfolding(crate::specs::Parameters::keyword))]
+fn keyword<'a>(
+    alloc: Global,
+    depth: usize,
+    name: Name,
+    span: Span,
+    tokens: &'a [Token],
+) -> Read<'a, Parameter<Boxed<Tree>>>
+    ensures { Gives (λ x. (x.0, x.1.now)) result (spec.keyword depth name span tokens.now) }
+{
+    if has_no_default(tokens) {
+        return Ok((Parameter::RequiredKeyword { name, span }, tokens));
+    }
+    let (default, rest) = tern(alloc, depth, tokens)?;
+    Ok((
+        Parameter::OptionalKeyword {
+            name,
+            span,
+            default,
+        },
+        rest,
+    ))
+}
+
+/// Behind the `&` of a block.
+#[tactic(auto, unfolding(crate::specs::Parameters::block))]
+fn block<'a>(
+    alloc: Global,
+    names: &IndexSet<Name>,
+    tokens: &'a [Token],
+) -> Read<'a, Parameter<Boxed<Tree>>>
+    ensures { Gives (λ x. (x.0, x.1.now)) result (spec.block names.now.keys tokens.now) }
+{
+    match tokens {
+        [
+            Token {
+                kind: TokenKind::Identifier { words },
+                span,
+            },
+            rest @ ..,
+        ] => match fresh(alloc, names, words)? {
+            Some(name) => Ok((Parameter::Block { name, span: *span }, rest)),
+            None => Err(Stop::Refused(tokens)),
+        },
+        _ => Err(Stop::Refused(tokens)),
+    }
+}
+
+/// A parameter behind others that have these names and leave this stage.
+#[tactic(auto, unfolding(crate::specs::Parameters::parameter))]
+fn parameter<'a>(
+    alloc: Global,
+    depth: usize,
+    stage: Stage,
+    names: &IndexSet<Name>,
+    tokens: &'a [Token],
+) -> Read<'a, Parameter<Boxed<Tree>>>
+    ensures { Gives (λ x. (x.0, x.1.now)) result (spec.parameter depth stage names.now.keys tokens.now) }
+{
+    match tokens {
+        [
+            Token {
+                kind: TokenKind::Identifier { words },
+                span,
+            },
+            rest @ ..,
+        ] if is_plain(stage) => match fresh(alloc, names, words)? {
+            Some(name) => plain(alloc, depth, stage, name, *span, rest),
+            None => Err(Stop::Refused(tokens)),
+        },
+        [
+            Token {
+                kind: TokenKind::Label { words },
+                span,
+            },
+            rest @ ..,
+        ] => match fresh(alloc, names, words)? {
+            Some(name) => keyword(alloc, depth, name, *span, rest),
+            None => Err(Stop::Refused(tokens)),
+        },
+        [
+            Token {
+                kind: TokenKind::Ampersand,
+                ..
+            },
+            rest @ ..,
+        ] => block(alloc, names, rest),
+        _ => Err(Stop::Refused(tokens)),
+    }
+}
+
+/// The separators behind a comma, which may stand there in brackets alone.
+fn behind_comma(in_brackets: bool, tokens: &[Token]) -> &[Token]
+    ensures { result.now ≡ spec.behind_comma in_brackets tokens.now }
+{
+    if in_brackets {
+        skip_separators(after(tokens))
+    } else {
+        after(tokens)
+    }
+}
+
+/// Whether a row is over behind a parameter that leaves this stage.
+fn is_over(stage: Stage, tokens: &[Token]) -> bool
+    ensures { result ≡ spec.is_over stage tokens.now }
+{
+    is_last(stage) || !sees(Shape::Comma, tokens)
+}
+
+/// One or more parameters with commas between.
+pub fn row<'a>(
+    alloc: Global,
+    depth: usize,
+    in_brackets: bool,
+    tokens: &'a [Token],
+) -> Read<'a, Items<Parameter<Boxed<Tree>>>>
+    ensures { Gives (λ x. (x.0, x.1.now)) result (spec.row depth in_brackets tokens.now) }
+{
+    let mut found = Items::new(alloc);
+    let mut names = IndexSet::new(alloc);
+    let mut stage = Stage::Required;
+    let mut rest = tokens;
+    for _turn in 0..depth {
+        let (next, behind) = parameter(alloc, depth, stage, &names, rest)?;
+        stage = stage_behind(&next);
+        note(alloc, &mut names, &next)?;
+        found.push(next)?;
+        if is_over(stage, behind) {
+            return Ok((found, behind));
+        }
+        rest = behind_comma(in_brackets, behind);
+    }
+    Err(Stop::Refused(rest))
+}
+
+/// Parameters in brackets, behind the opening one.
+#[tactic(auto, unfolding(crate::specs::Parameters::bracketed))]
+fn bracketed<'a>(
+    alloc: Global,
+    depth: usize,
+    tokens: &'a [Token],
+) -> Read<'a, Items<Parameter<Boxed<Tree>>>>
+    ensures { Gives (λ x. (x.0, x.1.now)) result (spec.bracketed depth tokens.now) }
+{
+    if sees(Shape::CloseParen, tokens) {
+        return Ok((Items::new(alloc), after(tokens)));
+    }
+    let (found, rest) = row(alloc, depth, true, tokens)?;
+    let (_, rest) = expect(Shape::CloseParen, skip_separators(rest))?;
+    Ok((found, rest))
+}
+
+/// Parameters without brackets.
+#[tactic(auto, unfolding(crate::specs::Parameters::bare))]
+fn bare<'a>(
+    alloc: Global,
+    depth: usize,
+    tokens: &'a [Token],
+) -> Read<'a, Items<Parameter<Boxed<Tree>>>>
+    ensures { Gives (λ x. (x.0, x.1.now)) result (spec.bare depth tokens.now) }
+{
+    if sees(Shape::Separator, tokens) {
+        return Ok((Items::new(alloc), tokens));
+    }
+    let (found, rest) = row(alloc, depth, false, tokens)?;
+    if !sees(Shape::Separator, rest) {
+        return Err(Stop::Refused(rest));
+    }
+    Ok((found, rest))
+}
+
+/// The parameters of a method, behind its name.
+#[tactic(auto, unfolding(crate::specs::Parameters::parameters_of))]
+pub fn parameters<'a>(
+    alloc: Global,
+    depth: usize,
+    tokens: &'a [Token],
+) -> Read<'a, Items<Parameter<Boxed<Tree>>>>
+    ensures { Gives (λ x. (x.0, x.1.now)) result (spec.parameters_of depth tokens.now) }
+{
+    if sees(Shape::OpenParen, tokens) {
+        bracketed(alloc, depth, skip_separators(after(tokens)))
+    } else {
+        bare(alloc, depth, tokens)
+    }
+}
