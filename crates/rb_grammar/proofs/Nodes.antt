@@ -1,0 +1,128 @@
+-- A tree stands at tokens exactly where its node does, and the trees in it.
+use Rattle.std.proofs.Common.{◌≡◌, ◌⊎◌, inl, inr, List, [], ◌∷◌, map, Some, None, refl, sym, ap, subst, ◌∙◌}
+use mathlib.Core.Path.{transport}
+use Rattle.rb_tree.specs.Trees.{span_of, span_at}
+use Rattle.rb_tree.specs.declared.token.Token.{Token}
+use Rattle.rb_tree.specs.declared.syntax.Tree.{Tree, out-Tree}
+use Rattle.rb_tree.specs.declared.syntax.Tree.TheOpen.{Tree-F}
+use Rattle.rb_tree.specs.declared.syntax.Tree.TheViews.{roll-Tree, out-roll-Tree, roll-out-Tree}
+use Rattle.rb_tree.specs.declared.syntax.Tree.TheFolds.{rec-roll-Tree, map-Tree}
+use Rattle.rb_tree.specs.declared.syntax.Suffix.TheVariants as suffix
+use Rattle.rb_tree.specs.declared.syntax.Argument.TheVariants as argument
+use Rattle.rb_tree.specs.declared.syntax.Piece.TheVariants as piece
+use Rattle.rb_tree.specs.declared.syntax.Pair.TheVariants as pair
+use Rattle.rb_tree.specs.declared.syntax.Parameter.TheVariants as parameter
+use Rattle.rb_grammar.specs.Places.{Each, IsPlaced, DoesNodeStand, StandsAt, TreesStandByNodes}
+
+-- ---- a fact of each element, and the same fact of what the elements are mapped to
+
+each-mapped : {A B : Type 0} (P : A → Type 0) (Q : B → Type 0) (f : A → B) → ((x : A) → P x ≡ Q (f x)) → (xs : List A) → Each P xs ≡ Each Q (map f xs)
+each-mapped P Q f h [] = refl
+each-mapped P Q f h (x ∷ xs) = λ i. h x i × each-mapped P Q f h xs i
+
+both : {A B C D : Type 0} → A ≡ C → B ≡ D → (A × B) ≡ (C × D)
+both p q = λ i. p i × q i
+
+three : {A B C A' B' C' : Type 0} → A ≡ A' → B ≡ B' → C ≡ C' → (A × B × C) ≡ (A' × B' × C')
+three p q r = λ i. p i × q i × r i
+
+four : {A B C D A' B' C' D' : Type 0} → A ≡ A' → B ≡ B' → C ≡ C' → D ≡ D' → (A × B × C × D) ≡ (A' × B' × C' × D')
+four p q r s = λ i. p i × q i × r i × s i
+
+five : {A B C D E A' B' C' D' E' : Type 0} → A ≡ A' → B ≡ B' → C ≡ C' → D ≡ D' → E ≡ E' → (A × B × C × D × E) ≡ (A' × B' × C' × D' × E')
+five p q r s t = λ i. p i × q i × r i × s i × t i
+
+-- whether a node stands is told by what stands for the trees in it
+natural : (tokens : List Token) (X : Type 0) (v : X → Tree) (k : Tree → Type 0) (x : Tree-F X) → DoesNodeStand tokens (λ p. k (v p)) x ≡ DoesNodeStand tokens k (map-Tree X Tree v x)
+natural tokens X v k (Tree-F.Body [] span) = refl
+natural tokens X v k (Tree-F.Body (s ∷ ss) span) = both refl (both refl (each-mapped _ _ _ (λ x. refl) ss))
+natural tokens X v k (Tree-F.Jump jump None span) = refl
+natural tokens X v k (Tree-F.Jump jump (Some value) span) = refl
+natural tokens X v k (Tree-F.Command callee arguments None span) =
+    four refl refl (each-mapped _ _ _ (elim [ argument.Positional value ↦ refl | argument.Keyword name span value ↦ refl | argument.Block span value ↦ refl ]) arguments) refl
+natural tokens X v k (Tree-F.Command callee arguments (Some block) span) =
+    four refl refl (each-mapped _ _ _ (elim [ argument.Positional value ↦ refl | argument.Keyword name span value ↦ refl | argument.Block span value ↦ refl ]) arguments) refl
+natural tokens X v k (Tree-F.Post receiver suffixes span) = three refl refl (each-mapped _ _ _ (elim [
+  | suffix.Call dot name name_span None None span ↦ refl
+  | suffix.Call dot name name_span None (Some block) span ↦ refl
+  | suffix.Call dot name name_span (Some arguments) None span ↦
+      four refl refl (each-mapped _ _ _ (elim [ argument.Positional value ↦ refl | argument.Keyword name span value ↦ refl | argument.Block span value ↦ refl ]) arguments) refl
+  | suffix.Call dot name name_span (Some arguments) (Some block) span ↦
+      four refl refl (each-mapped _ _ _ (elim [ argument.Positional value ↦ refl | argument.Keyword name span value ↦ refl | argument.Block span value ↦ refl ]) arguments) refl
+  | suffix.Constant name name_span span ↦ refl
+  | suffix.Index arguments span ↦
+      both refl (each-mapped _ _ _ (elim [ argument.Positional value ↦ refl | argument.Keyword name span value ↦ refl | argument.Block span value ↦ refl ]) arguments)
+]) suffixes)
+natural tokens X v k (Tree-F.Text pieces span) = both refl (each-mapped _ _ _ (elim [ piece.Words words span ↦ refl | piece.Code body span ↦ refl ]) pieces)
+natural tokens X v k (Tree-F.Call name name_span None None span) = refl
+natural tokens X v k (Tree-F.Call name name_span None (Some block) span) = refl
+natural tokens X v k (Tree-F.Call name name_span (Some arguments) None span) =
+    four refl refl (each-mapped _ _ _ (elim [ argument.Positional value ↦ refl | argument.Keyword name span value ↦ refl | argument.Block span value ↦ refl ]) arguments) refl
+natural tokens X v k (Tree-F.Call name name_span (Some arguments) (Some block) span) =
+    four refl refl (each-mapped _ _ _ (elim [ argument.Positional value ↦ refl | argument.Keyword name span value ↦ refl | argument.Block span value ↦ refl ]) arguments) refl
+natural tokens X v k (Tree-F.Yield None span) = refl
+natural tokens X v k (Tree-F.Yield (Some arguments) span) =
+    both refl (each-mapped _ _ _ (elim [ argument.Positional value ↦ refl | argument.Keyword name span value ↦ refl | argument.Block span value ↦ refl ]) arguments)
+natural tokens X v k (Tree-F.Super None span) = refl
+natural tokens X v k (Tree-F.Super (Some arguments) span) =
+    both refl (each-mapped _ _ _ (elim [ argument.Positional value ↦ refl | argument.Keyword name span value ↦ refl | argument.Block span value ↦ refl ]) arguments)
+natural tokens X v k (Tree-F.Array elements span) = both refl (each-mapped _ _ _ (λ x. refl) elements)
+natural tokens X v k (Tree-F.Hash pairs span) = both refl (each-mapped _ _ _ (elim [ pair.Arrow key value ↦ refl | pair.Label name span value ↦ refl ]) pairs)
+natural tokens X v k (Tree-F.If test condition body arms None span) = five refl refl refl (each-mapped _ _ _ (λ a. refl) arms) refl
+natural tokens X v k (Tree-F.If test condition body arms (Some otherwise) span) = five refl refl refl (each-mapped _ _ _ (λ a. refl) arms) refl
+natural tokens X v k (Tree-F.Case None arms None span) = four refl refl (each-mapped _ _ _ (λ w. both (each-mapped _ _ _ (λ x. refl) w.patterns) refl) arms) refl
+natural tokens X v k (Tree-F.Case None arms (Some otherwise) span) = four refl refl (each-mapped _ _ _ (λ w. both (each-mapped _ _ _ (λ x. refl) w.patterns) refl) arms) refl
+natural tokens X v k (Tree-F.Case (Some subject) arms None span) = four refl refl (each-mapped _ _ _ (λ w. both (each-mapped _ _ _ (λ x. refl) w.patterns) refl) arms) refl
+natural tokens X v k (Tree-F.Case (Some subject) arms (Some otherwise) span) = four refl refl (each-mapped _ _ _ (λ w. both (each-mapped _ _ _ (λ x. refl) w.patterns) refl) arms) refl
+natural tokens X v k (Tree-F.Def visibility own name name_span parameters body span) = four refl refl (each-mapped _ _ _ (elim [
+  | parameter.Required name span ↦ refl
+  | parameter.Optional name span default ↦ refl
+  | parameter.RequiredKeyword name span ↦ refl
+  | parameter.OptionalKeyword name span default ↦ refl
+  | parameter.Block name span ↦ refl
+]) parameters) refl
+natural tokens X v k x = refl
+
+-- ---- the law
+
+rolled : (tokens : List Token) (r : Tree-F Tree) → StandsAt tokens (roll-Tree r) ≡ DoesNodeStand tokens (StandsAt tokens) r
+unfolding StandsAt
+rolled tokens r = rec-roll-Tree (Type 0) (λ X tree stands node. DoesNodeStand tokens stands node) (natural tokens) r
+
+pub stands : (tokens : List Token) (r : Tree-F Tree) → DoesNodeStand tokens (StandsAt tokens) r → StandsAt tokens (roll-Tree r)
+stands tokens r h = transport (sym (rolled tokens r)) h
+
+pub opened : (tokens : List Token) (t : Tree) → StandsAt tokens t → DoesNodeStand tokens (StandsAt tokens) (out-Tree t)
+opened tokens t h = transport (rolled tokens (out-Tree t)) (subst (StandsAt tokens) (sym (roll-out-Tree t)) h)
+
+pub trees-stand-by-nodes : TreesStandByNodes
+trees-stand-by-nodes tokens t = (opened tokens t, λ h. subst (StandsAt tokens) (roll-out-Tree t) (stands tokens (out-Tree t) h))
+
+-- the node is known
+pub opened-as : (tokens : List Token) (t : Tree) (r : Tree-F Tree) → out-Tree t ≡ r → StandsAt tokens t → DoesNodeStand tokens (StandsAt tokens) r
+opened-as tokens t r e h = subst (DoesNodeStand tokens (StandsAt tokens)) e (opened tokens t h)
+
+-- the tree is made of the node
+pub taken-apart : (tokens : List Token) (t : Tree) (r : Tree-F Tree) → roll-Tree r ≡ t → StandsAt tokens t → DoesNodeStand tokens (StandsAt tokens) r
+taken-apart tokens t r e h = opened-as tokens t r (ap out-Tree (sym e) ∙ out-roll-Tree r) h
+
+-- ---- the place of a tree
+
+placed-node : (tokens : List Token) (r : Tree-F Tree) → DoesNodeStand tokens (StandsAt tokens) r → IsPlaced tokens (span_at r) ⊎ (span_at r).start ≡ 0 × (span_at r).end ≡ 0
+placed-node tokens (Tree-F.Body [] span) h = inr h
+placed-node tokens (Tree-F.Whole sign words span) h = inl h
+placed-node tokens (Tree-F.Float sign words span) h = inl h
+placed-node tokens (Tree-F.Symbol words span) h = inl h
+placed-node tokens (Tree-F.InstanceVariable name span) h = inl h
+placed-node tokens (Tree-F.Constant name span) h = inl h
+placed-node tokens (Tree-F.SelfWord span) h = inl h
+placed-node tokens (Tree-F.Nil span) h = inl h
+placed-node tokens (Tree-F.True span) h = inl h
+placed-node tokens (Tree-F.False span) h = inl h
+placed-node tokens (Tree-F.Name name span) h = inl h
+placed-node tokens r h = inl h.0
+
+-- a tree that stands begins and ends at tokens, or is empty at the start
+pub placed-tree : (tokens : List Token) (t : Tree) → StandsAt tokens t → IsPlaced tokens (span_of t) ⊎ (span_of t).start ≡ 0 × (span_of t).end ≡ 0
+unfolding span_of
+placed-tree tokens t h = placed-node tokens (out-Tree t) (opened tokens t h)
