@@ -1,0 +1,259 @@
+-- `if`, `unless`, `while`, `until` and `case` that derive are read.
+use Rattle.std.proofs.Common.{◌≡◌, ℕ, zero, suc, ◌<◌, Bool, true, false, ◌||◌, if◌then◌else◌, List, [], ◌∷◌, ◌++◌, length, Option, Ok, ◌⊎◌, inl, inr, refl, sym, ap, subst, ◌∙◌, append_assoc, append-nil, arith}
+use Rattle.rb_tree.specs.Tokens.{same_shape}
+use Rattle.rb_tree.specs.declared.syntax.Arm.{Arm}
+use Rattle.rb_tree.specs.declared.syntax.Test.{Test}
+use Rattle.rb_tree.specs.declared.syntax.Test.TheVariants as test
+use Rattle.rb_tree.specs.declared.syntax.Tree.{Tree}
+use Rattle.rb_tree.specs.declared.syntax.Tree.TheVariants as tree
+use Rattle.rb_tree.specs.declared.syntax.When.{When}
+use Rattle.rb_tree.specs.declared.token.Token.{Token}
+use Rattle.rb_tree.specs.declared.token.Shape.{Shape}
+use Rattle.rb_tree.specs.declared.token.Shape.TheVariants as shape
+use Rattle.rb_expr.specs.declared.form.Form.{Form}
+use Rattle.rb_expr.specs.Reading.{Parser, sees, after}
+use Rattle.rb_expr.specs.Branches.{then_word, do_word, otherwise, elsif_arm, elsif_arms_from, elsif_arms, arms_of, branch, repeated, subject, patterns_from, patterns, when_arm, when_arms_from, when_arms, choice}
+use Rattle.rb_grammar.specs.Tokens.{Is, IsAny}
+use Rattle.rb_grammar.specs.Forms.{Inside}
+use Rattle.rb_grammar.specs.Grammar.{Gap, Then, DerivesBody, DerivesSimple, DerivesArms, DerivesElse, DerivesSubject, DerivesWhens, DerivesPatterns}
+use Rattle.rb_grammar.specs.Grammar.Gap.{Closed, Wide}
+use Rattle.rb_grammar.specs.Grammar.Then.{Word, Line, LineWord}
+use Rattle.rb_grammar.specs.Grammar.DerivesArms.{NoArm, MoreArms}
+use Rattle.rb_grammar.specs.Grammar.DerivesElse.{NoElse, SomeElse}
+use Rattle.rb_grammar.specs.Grammar.DerivesSubject.{NoSubject, SomeSubject}
+use Rattle.rb_grammar.specs.Grammar.DerivesWhens.{NoWhen, MoreWhens}
+use Rattle.rb_grammar.specs.Grammar.DerivesPatterns.{LastPattern, MorePatterns}
+use Rattle.rb_grammar.proofs.Steps.{shown, same, Within, within-self, within-token, within-more}
+use Rattle.rb_grammar_laws.specs.Begins.{SIMPLE, BODIES}
+use Rattle.rb_grammar_laws.specs.Ends.{Ends, BODY_ENDS, SIMPLE_ENDS, TERM_ENDS}
+use Rattle.rb_grammar_laws.proofs.Steps.{on, taken, passed, expects, other, unseen, skipped, Past, past-token, past-within, past-more, within-past, past-length, within-length, gap-within, ends-by, ends-unseen, ends-wider}
+use Rattle.rb_grammar_laws.proofs.Begins.{simple-begins, body-begins}
+use Rattle.rb_grammar_laws.proofs.Complete.{Reads, ReadsSome, Complete}
+use Rattle.rb_grammar_laws.proofs.Lists.{IsSome}
+use Rattle.rb_expr.specs.declared.form.Form.TheVariants as form
+use Rattle.srb_terms.specs.declared.span.Span.{Span}
+
+-- ---- the words between parts
+
+then-ends : (free : Bool) (xs ys : List Token) → Then xs ys → Ends SIMPLE_ENDS free xs
+unfolding same_shape
+then-ends free xs ys (Word t _ is) = ends-by SIMPLE_ENDS shape.Then refl refl free t ys is
+then-ends free xs ys (Line t _ is) = ends-by SIMPLE_ENDS shape.Separator refl refl free t ys is
+then-ends free xs ys (LineWord s t _ is is2) = ends-by SIMPLE_ENDS shape.Separator refl refl free s (t ∷ ys) is
+
+then-read : (xs ys : List Token) → Then xs ys → sees shape.Then ys ≡ false → (place : Span) × (then_word xs ≡ Ok (place, ys)) × Past xs ys
+unfolding then_word same_shape
+then-read xs ys (Word t _ is) e = (t.span, taken _ _ (shown shape.Then t ys is) (expects shape.Then t ys is), past-token t (within-self _))
+then-read xs ys (Line t _ is) e =
+    (t.span, passed _ _ (other shape.Then shape.Separator t ys is refl) (on _ (expects shape.Separator t ys is) (ap (λ zs. Ok (t.span, zs)) (passed (after ys) ys e refl))), past-token t (within-self _))
+then-read xs ys (LineWord s t _ is is2) e =
+    (s.span, passed _ _ (other shape.Then shape.Separator s (t ∷ ys) is refl) (on _ (expects shape.Separator s (t ∷ ys) is) (ap (λ zs. Ok (s.span, zs)) (taken ys (t ∷ ys) (shown shape.Then t ys is2) refl))), past-token s (within-token t (within-self _)))
+
+then-bodies : (free : Bool) (t : Tree) (xs ys : List Token) → DerivesBody Inside free t xs ys → Ends BODY_ENDS free ys → sees shape.Then xs ≡ false
+unfolding same_shape
+then-bodies free t xs ys d ends = ends-unseen shape.Then BODIES refl false xs (body-begins free t xs ys d ends)
+
+-- ---- what stands behind bodies
+
+else-ends : (free : Bool) (o : Option Tree) (xs : List Token) (e : Token) (ys : List Token) → DerivesElse free o xs (e ∷ ys) → Is shape.End e → Ends BODY_ENDS free xs
+unfolding same_shape
+else-ends free o xs e ys (NoElse _ _) is = ends-by BODY_ENDS shape.End refl refl free e ys is
+else-ends free o xs e ys (SomeElse _ k b us _ is2 d) is = ends-by BODY_ENDS shape.Else refl refl free k us is2
+
+arms-end : (free : Bool) (arms : List (Arm Tree)) (xs ys : List Token) → DerivesArms free arms xs ys → Ends BODY_ENDS free ys → Ends BODY_ENDS free xs
+unfolding same_shape
+arms-end free arms xs ys (NoArm _ _) ends = ends
+arms-end free arms xs ys (MoreArms _ k c b more us ps qs rs _ is d t e f) ends = ends-by BODY_ENDS shape.Elsif refl refl free k us is
+
+whens-end : (free : Bool) (arms : List (When Tree)) (xs ys : List Token) → DerivesWhens free arms xs ys → Ends BODY_ENDS free ys → Ends BODY_ENDS free xs
+unfolding same_shape
+whens-end free arms xs ys (NoWhen _ _) ends = ends
+whens-end free arms xs ys (MoreWhens _ k given b more us ps qs rs _ is d t e f) ends = ends-by BODY_ENDS shape.When refl refl free k us is
+
+else-unseen : (s : Shape) → same_shape shape.End s ≡ false → same_shape shape.Else s ≡ false → (free : Bool) (o : Option Tree) (xs : List Token) (e : Token) (ys : List Token) → DerivesElse free o xs (e ∷ ys) → Is shape.End e → sees s xs ≡ false
+else-unseen s f g free o xs e ys (NoElse _ _) is = other s shape.End e ys is f
+else-unseen s f g free o xs e ys (SomeElse _ k b us _ is2 d) is = other s shape.Else k us is2 g
+
+module _ (nested : Form → Bool → Parser Tree) (turns : ℕ) (ih : Complete turns nested) where
+  else-read : (free : Bool) (o : Option Tree) (xs : List Token) (e : Token) (ys : List Token) → DerivesElse free o xs (e ∷ ys) → Is shape.End e → length xs < turns → ReadsSome (otherwise nested turns free) o xs (e ∷ ys)
+  unfolding otherwise same_shape
+  else-read free o xs e ys (NoElse _ _) is fits = (passed _ _ (other shape.Else shape.End e ys is refl) refl, within-self _)
+  else-read free o xs e ys (SomeElse _ k b us _ is2 d) is fits =
+      let r = ih.body free b us (e ∷ ys) (let h : suc (length us) < turns = omega arith in h) d (ends-by BODY_ENDS shape.End refl refl free e ys is) in
+      (taken _ _ (shown shape.Else k us is2) (on _ r.0 refl), within-token k r.1)
+
+  -- a condition, `then` and a body
+  record Guarded (free : Bool) (c body : Tree) (xs ps qs rs : List Token) : Type 0 where
+    place : Span
+    condition : nested form.Simple free xs ≡ Ok (c, ps)
+    word : then_word ps ≡ Ok (place, qs)
+    read : nested form.Body free qs ≡ Ok (body, rs)
+    past : Past xs rs
+
+  guarded : (free : Bool) (c body : Tree) (xs ps qs rs : List Token) → DerivesSimple false free c xs ps → Then ps qs → DerivesBody Inside free body qs rs → Ends BODY_ENDS free rs → suc (length xs) < turns → Guarded free c body xs ps qs rs
+  guarded free c body xs ps qs rs d t b ends fits =
+      let r = ih.simple free c xs ps fits d (then-ends free ps qs t) in
+      let w = then-read ps qs t (then-bodies free body qs rs b ends) in
+      let p = past-more r.1 (past-within w.2) in
+      let short = past-length p in
+      let k = ih.body free body qs rs (let h : suc (length qs) < turns = omega arith in h) b ends in
+      record { place = w.0; condition = r.0; word = w.1; read = k.0; past = past-more p k.1 }
+
+  arms-from-read : (free : Bool) (arms : List (Arm Tree)) (xs ys : List Token) → DerivesArms free arms xs ys → Ends BODY_ENDS free ys → sees shape.Elsif ys ≡ false → (n : ℕ) (found : List (Arm Tree)) → length xs < n → length xs < turns →
+      ReadsSome (elsif_arms_from nested turns free n found) (found ++ arms) xs ys
+  unfolding elsif_arms_from elsif_arm
+  arms-from-read free arms xs ys d ends none zero found less fits = absurd (let h : ⊥ = omega arith in h)
+  arms-from-read free arms xs ys (NoArm _ _) ends none (suc n) found less fits = (passed _ _ none (ap (λ arms. Ok (arms, ys)) (sym (append-nil found))), within-self _)
+  arms-from-read free arms xs ys (MoreArms _ k c body more us ps qs rs _ is d t b e) ends none (suc n) found less fits =
+      let g = guarded free c body us ps qs rs d t b (arms-end free more rs ys e ends) (let h : suc (length us) < turns = omega arith in h) in
+      let short = past-length (g.past) in
+      let arm : Arm Tree = record { condition = c; body = body } in
+      let rest = arms-from-read free more rs ys e ends none n (found ++ arm ∷ []) (let h : length rs < n = omega arith in h) (let h : length rs < turns = omega arith in h) in (
+        taken _ _ (shown shape.Elsif k us is) (on _ (on _ (expects shape.Elsif k us is) (on _ g.condition (on _ g.word (on _ g.read refl)))) (rest.0 ∙ ap (λ arms. Ok (arms, ys)) (append_assoc found (arm ∷ []) more))),
+        within-token k (within-more (past-within g.past) rest.1),
+      )
+
+  arms-read : (free : Bool) (word : Test) (arms : List (Arm Tree)) (xs ys : List Token) → DerivesArms free arms xs ys → (word ≡ test.Positive ⊎ arms ≡ []) → Ends BODY_ENDS free ys → sees shape.Elsif ys ≡ false → length xs < turns → ReadsSome (arms_of nested turns free word) arms xs ys
+  unfolding arms_of elsif_arms
+  arms-read free test.Positive arms xs ys d only ends none fits = arms-from-read free arms xs ys d ends none turns [] fits fits
+  arms-read free test.Negative arms xs ys (NoArm _ _) only ends none fits = (refl, within-self _)
+  arms-read free test.Negative arms xs ys (MoreArms _ k c body more us ps qs rs _ is d t b e) (inl f) ends none fits = absurd (cc)
+  arms-read free test.Negative arms xs ys (MoreArms _ k c body more us ps qs rs _ is d t b e) (inr f) ends none fits = absurd (cc)
+
+  pub branch-read : (free : Bool) (k z : Token) (word : Test) (c body : Tree) (arms : List (Arm Tree)) (o : Option Tree) (xs ps qs rs us ys : List Token) → DerivesSimple false free c xs ps → Then ps qs → DerivesBody Inside free body qs rs → DerivesArms free arms rs us →
+      (word ≡ test.Positive ⊎ arms ≡ []) → DerivesElse free o us (z ∷ ys) → Is shape.End z → suc (length xs) < turns →
+      (branch nested turns free word (k ∷ xs) ≡ Ok (tree.If word c body arms o (record { start = k.span.start; end = z.span.end }), ys)) × Past xs (z ∷ ys)
+  unfolding branch same_shape
+  branch-read free k z word c body arms o xs ps qs rs us ys d t b a only e is fits =
+      let after-arms = else-ends free o us z ys e is in
+      let g = guarded free c body xs ps qs rs d t b (arms-end free arms rs us a after-arms) fits in
+      let short = past-length g.past in
+      let r = arms-read free word arms rs us a only after-arms (else-unseen shape.Elsif refl refl free o us z ys e is) (let h : length rs < turns = omega arith in h) in
+      let short2 = within-length r.1 in
+      let l = else-read free o us z ys e is (let h : length us < turns = omega arith in h) in
+      (on _ g.condition (on _ g.word (on _ g.read (on _ r.0 (on _ l.0 (on _ (expects shape.End z ys is) refl))))), past-more g.past (within-more r.1 l.1))
+
+  do-read : (t : Token) (ts : List Token) → IsAny (shape.Do ∷ shape.Separator ∷ []) t → do_word (t ∷ ts) ≡ Ok (t.span, ts)
+  unfolding do_word same_shape
+  do-read t ts (inl is) = taken _ _ (shown shape.Do t ts is) (expects shape.Do t ts is)
+  do-read t ts (inr (inl is)) = passed _ _ (other shape.Do shape.Separator t ts is refl) (expects shape.Separator t ts is)
+  do-read t ts (inr (inr h)) = absurd h
+
+  do-ends : (t : Token) (ts : List Token) → IsAny (shape.Do ∷ shape.Separator ∷ []) t → Ends SIMPLE_ENDS false (t ∷ ts)
+  unfolding same_shape
+  do-ends t ts (inl is) = (inr (inr (inr (inr (inr (inl is))))), λ e. absurd (cc))
+  do-ends t ts (inr (inl is)) = ends-by SIMPLE_ENDS shape.Separator refl refl false t ts is
+  do-ends t ts (inr (inr h)) = absurd h
+
+  pub repeated-read : (free : Bool) (k t z : Token) (word : Test) (c body : Tree) (xs ps ys : List Token) → DerivesSimple false false c xs (t ∷ ps) → IsAny (shape.Do ∷ shape.Separator ∷ []) t → DerivesBody Inside free body ps (z ∷ ys) → Is shape.End z → suc (length xs) < turns →
+      (repeated nested turns free word (k ∷ xs) ≡ Ok (tree.While word c body (record { start = k.span.start; end = z.span.end }), ys)) × Past xs (z ∷ ys)
+  unfolding repeated same_shape
+  repeated-read free k t z word c body xs ps ys d any b is fits =
+      let r = ih.simple false c xs (t ∷ ps) fits d (do-ends t ps any) in
+      let short = past-length r.1 in
+      let l = ih.body free body ps (z ∷ ys) (let h : suc (length ps) < turns = omega arith in h) b (ends-by BODY_ENDS shape.End refl refl free z ys is) in
+      (on _ r.0 (on _ (do-read t ps any) (on _ l.0 (on _ (expects shape.End z ys is) refl))), past-more r.1 (within-token t l.1))
+
+  -- ---- `case`
+
+  patterns-from-read : (free : Bool) (given : List Tree) (xs ys : List Token) → DerivesPatterns free given xs ys → Ends TERM_ENDS free ys → sees shape.Comma ys ≡ false → (n : ℕ) (found : List Tree) → length xs < n → suc (length xs) < turns →
+      Reads (patterns_from nested turns free n found) (found ++ given) xs ys
+  unfolding patterns_from same_shape
+  patterns-from-read free given xs ys d ends comma zero found less fits = absurd (let h : ⊥ = omega arith in h)
+  patterns-from-read free given xs ys (LastPattern _ t _ _ d) ends comma (suc n) found less fits =
+      let r = ih.term free t xs ys fits d ends in
+      (on _ r.0 (passed _ _ comma refl), r.1)
+  patterns-from-read free given xs ys (MorePatterns _ c t more _ ps _ d is e) ends comma (suc n) found less fits =
+      let r = ih.term free t xs (c ∷ ps) fits d (ends-by TERM_ENDS shape.Comma refl refl free c ps is) in
+      let p = past-more r.1 (within-token c (within-self ps)) in
+      let short = past-length p in
+      let rest = patterns-from-read free more ps ys e ends comma n (found ++ t ∷ []) (let h : length ps < n = omega arith in h) (let h : suc (length ps) < turns = omega arith in h) in
+      (on _ r.0 (taken _ _ (shown shape.Comma c ps is) (rest.0 ∙ ap (λ found. Ok (found, ys)) (append_assoc found (t ∷ []) more))), past-more p (past-within rest.1))
+
+  when-read : (free : Bool) (k : Token) (given : List Tree) (body : Tree) (xs ps qs rs : List Token) → Is shape.When k → DerivesPatterns free given xs ps → Then ps qs → DerivesBody Inside free body qs rs → Ends BODY_ENDS free rs → suc (length xs) < turns →
+      Reads (when_arm nested turns free) (record { patterns = given; body = body }) (k ∷ xs) rs
+  unfolding when_arm patterns same_shape
+  when-read free k given body xs ps qs rs is d t b ends fits =
+      let e = then-ends free ps qs t in
+      let r = patterns-from-read free given xs ps d (ends-wider SIMPLE_ENDS TERM_ENDS refl free ps e) (ends-unseen shape.Comma SIMPLE_ENDS refl free ps e) turns [] (let h : length xs < turns = omega arith in h) fits in
+      let w = then-read ps qs t (then-bodies free body qs rs b ends) in
+      let p = past-more r.1 (past-within w.2) in
+      let short = past-length p in
+      let l = ih.body free body qs rs (let h : suc (length qs) < turns = omega arith in h) b ends in
+      (on _ (expects shape.When k xs is) (on _ r.0 (on _ w.1 (on _ l.0 refl))), past-token k (past-within (past-more p l.1)))
+
+  -- behind an arm others follow, or none
+  Followed : List (When Tree) → List Token → List Token → Type 0
+  Followed more rs ys = ((more ≡ []) × (rs ≡ ys)) ⊎ (IsSome more × (sees shape.When rs ≡ true))
+
+  followed : (free : Bool) (more : List (When Tree)) (rs ys : List Token) → DerivesWhens free more rs ys → Followed more rs ys
+  unfolding Followed
+  followed free more rs ys (NoWhen _ _) = inl (refl, refl)
+  followed free more rs ys (MoreWhens _ k given body rest us ps qs vs _ is d t b e) = inr (tt, shown shape.When k us is)
+
+  abbrev Arms : Bool → ℕ → List (When Tree) → When Tree → List (When Tree) → List Token → List Token → Type 0
+  Arms free n found arm more rs ys = ((if sees shape.When rs then when_arms_from nested turns free n (found ++ arm ∷ []) rs else Ok (found ++ arm ∷ [], rs)) ≡ Ok (found ++ arm ∷ more, ys)) × Within rs ys
+
+  arms-joined : (free : Bool) (n : ℕ) (found : List (When Tree)) (arm : When Tree) (more : List (When Tree)) (rs ys : List Token) → Followed more rs ys → sees shape.When ys ≡ false →
+      (IsSome more → Reads (when_arms_from nested turns free n (found ++ arm ∷ [])) ((found ++ arm ∷ []) ++ more) rs ys) → Arms free n found arm more rs ys
+  unfolding Followed
+  arms-joined free n found arm more rs ys (inl e) none rest = subst (λ rs. Arms free n found arm more rs ys) (sym e.1) (subst (λ more. Arms free n found arm more ys ys) (sym e.0) (passed _ _ none refl, within-self ys))
+  arms-joined free n found arm more rs ys (inr e) none rest = let r = rest e.0 in (taken _ _ e.1 (r.0 ∙ ap (λ arms. Ok (arms, ys)) (append_assoc found (arm ∷ []) more)), past-within r.1)
+
+  whens-from-read : (free : Bool) (arms : List (When Tree)) (xs ys : List Token) → DerivesWhens free arms xs ys → IsSome arms → Ends BODY_ENDS free ys → sees shape.When ys ≡ false → (n : ℕ) (found : List (When Tree)) → length xs < n → length xs < turns →
+      Reads (when_arms_from nested turns free n found) (found ++ arms) xs ys
+  unfolding when_arms_from
+  whens-from-read free arms xs ys d some ends none zero found less fits = absurd (let h : ⊥ = omega arith in h)
+  whens-from-read free arms xs ys (NoWhen _ _) some ends none (suc n) found less fits = absurd some
+  whens-from-read free arms xs ys (MoreWhens _ k given body more us ps qs rs _ is d t b e) some ends none (suc n) found less fits =
+      let r = when-read free k given body us ps qs rs is d t b (whens-end free more rs ys e ends) (let h : suc (length us) < turns = omega arith in h) in
+      let short = past-length r.1 in
+      let arm : When Tree = record { patterns = given; body = body } in
+      let rest = arms-joined free n found arm more rs ys (followed free more rs ys e) none (λ some. whens-from-read free more rs ys e some ends none n (found ++ arm ∷ []) (let h : length rs < n = omega arith in h) (let h : length rs < turns = omega arith in h)) in
+      (on _ r.0 rest.0, past-more r.1 rest.1)
+
+  subject-read : (free : Bool) (given : Option Tree) (xs ps qs : List Token) → DerivesSubject free given xs ps → Gap ps qs → sees shape.When qs ≡ true → suc (length xs) < turns → ReadsSome (subject nested turns free) given xs ps
+  unfolding subject same_shape
+  subject-read free given xs ps qs (NoSubject _ _) g when fits = (taken _ _ (opened ps qs g when) refl, within-self _)
+    where
+      or-right : (a b : Bool) → b ≡ true → (a || b) ≡ true
+      or-right true b e = refl
+      or-right false b e = e
+
+      opened : (ps qs : List Token) → Gap ps qs → sees shape.When qs ≡ true → (sees shape.Separator ps || sees shape.When ps) ≡ true
+      opened ps qs (Closed _) when = or-right (sees shape.Separator qs) _ when
+      opened ps qs (Wide t us _ is g) when = ap (λ b. b || sees shape.When (t ∷ us)) (shown shape.Separator t us is)
+  subject-read free given xs ps qs (SomeSubject _ t _ _ d) g when fits =
+      let b = simple-begins false free t xs ps d in
+      let r = ih.simple free t xs ps fits d (ended ps qs g when) in
+      (passed _ _ (ap (λ b. b || sees shape.When xs) (unseen shape.Separator SIMPLE refl xs b) ∙ unseen shape.When SIMPLE refl xs b) (on _ r.0 refl), past-within r.1)
+    where
+      ended : (ps qs : List Token) → Gap ps qs → sees shape.When qs ≡ true → Ends SIMPLE_ENDS free ps
+      ended ps [] (Closed _) when = absurd (cc)
+      ended ps (q ∷ qs) (Closed _) when = ends-by SIMPLE_ENDS shape.When refl refl free q qs (same _ _ when)
+      ended ps qs (Wide t us _ is g) when = ends-by SIMPLE_ENDS shape.Separator refl refl free t us is
+
+  whens-shown : (free : Bool) (arms : List (When Tree)) (xs ys : List Token) → DerivesWhens free arms xs ys → IsSome arms → sees shape.When xs ≡ true
+  whens-shown free arms xs ys (NoWhen _ _) some = absurd some
+  whens-shown free arms xs ys (MoreWhens _ k given body more us ps qs rs _ is d t b e) some = shown shape.When k us is
+
+  when-no-separator : (xs : List Token) → sees shape.When xs ≡ true → sees shape.Separator xs ≡ false
+  unfolding same_shape
+  when-no-separator [] e = refl
+  when-no-separator (t ∷ ts) e = other shape.Separator shape.When t ts (same _ _ e) refl
+
+  pub choice-read : (free : Bool) (k z : Token) (given : Option Tree) (arm : When Tree) (arms : List (When Tree)) (o : Option Tree) (xs ps qs rs ys : List Token) → DerivesSubject free given xs ps → Gap ps qs → DerivesWhens free (arm ∷ arms) qs rs → DerivesElse free o rs (z ∷ ys) → Is shape.End z → suc (length xs) < turns →
+      (choice nested turns free (k ∷ xs) ≡ Ok (tree.Case given (arm ∷ arms) o (record { start = k.span.start; end = z.span.end }), ys)) × Past xs (z ∷ ys)
+  unfolding choice when_arms same_shape
+  choice-read free k z given arm arms o xs ps qs rs ys d g w e is fits =
+      let when = whens-shown free (arm ∷ arms) qs rs w tt in
+      let r = subject-read free given xs ps qs d g when fits in
+      let gap = gap-within ps qs g in
+      let short = within-length r.1 in
+      let short2 = within-length gap in
+      let l = whens-from-read free (arm ∷ arms) qs rs w tt (else-ends free o rs z ys e is) (else-unseen shape.When refl refl free o rs z ys e is) turns [] (let h : length qs < turns = omega arith in h) (let h : length qs < turns = omega arith in h) in
+      let short3 = past-length l.1 in
+      let m = else-read free o rs z ys e is (let h : length rs < turns = omega arith in h) in (
+        on _ r.0 (on _ (ap (λ us. when_arms_from nested turns free turns [] us) (skipped ps qs g (when-no-separator qs when)) ∙ l.0) (on _ m.0 (on _ (expects shape.End z ys is) refl))),
+        within-past r.1 (within-past gap (past-more l.1 m.1)),
+      )

@@ -1,0 +1,212 @@
+-- Statements that derive are read, and bodies of them.
+use Rattle.std.proofs.Common.{◌≡◌, ℕ, zero, suc, ◌<◌, Bool, true, false, not, ◌||◌, is_none, if◌then◌else◌, List, [], ◌∷◌, ◌++◌, length, Option, Some, None, Ok, refl, sym, ap, subst, ◌∙◌, append_assoc, append-nil, arith}
+use Rattle.rb_tree.specs.Tokens.{shape_of, same_shape}
+use Rattle.rb_tree.specs.Trees.{span_of}
+use Rattle.rb_tree.specs.declared.syntax.Jump.{Jump}
+use Rattle.rb_tree.specs.declared.syntax.Modifier.{Modifier}
+use Rattle.rb_tree.specs.declared.syntax.Tree.{Tree}
+use Rattle.rb_tree.specs.declared.syntax.Tree.TheVariants as tree
+use Rattle.rb_tree.specs.declared.token.Token.{Token}
+use Rattle.rb_tree.specs.declared.token.Shape.TheVariants as shape
+use Rattle.rb_expr.specs.declared.form.Form.{Form}
+use Rattle.rb_expr.specs.Reading.{Outcome, Parser, sees, peek, start_of, skip_separators}
+use Rattle.rb_expr.specs.Shapes.{begins_simple, begins_statement, begins_value, has_value, jump_of, modifier_of}
+use Rattle.rb_expr.specs.Operators as operators
+use Rattle.rb_expr.specs.Statements as spec
+use Rattle.rb_expr.specs.Statements.{value, jump, jump_value, simple_by, simple, modified, modifiers_by, modifiers_from, modifiers, statement, body_from, body_start, statements}
+use Rattle.rb_grammar.specs.Tokens.{StartsWith}
+use Rattle.rb_grammar.specs.Spans.{across, last_of}
+use Rattle.rb_grammar.specs.Forms.{Site, Inside, MODIFIERS}
+use Rattle.rb_grammar.specs.Grammar.{Gap, IsRow, MODIFIER_WORDS, JUMP_WORDS, body_of, DerivesBody, DerivesMore, DerivesStatement, DerivesModified, DerivesSimple}
+use Rattle.rb_grammar.specs.Grammar.Gap.{Closed, Wide}
+use Rattle.rb_grammar.specs.Grammar.DerivesBody.{NoStatement, Statements}
+use Rattle.rb_grammar.specs.Grammar.DerivesMore.{NoMore, Another}
+use Rattle.rb_grammar.specs.Grammar.DerivesStatement.{Declared, Simply}
+use Rattle.rb_grammar.specs.Grammar.DerivesModified.{Unmodified, Modified}
+use Rattle.rb_grammar.specs.Grammar.DerivesSimple.{Valued, Jumps, JumpsWith}
+use Rattle.rb_grammar.proofs.Steps.{Holds, shown, within-self, within-token, within-more}
+use Rattle.rb_grammar.proofs.Sound.{Sound, Starts}
+use Rattle.rb_grammar.proofs.Statements as sound
+use Rattle.rb_grammar_laws.specs.Begins.{TERMS, SIMPLE}
+use Rattle.rb_grammar_laws.specs.Ends.{Ends, BODY_ENDS, STATEMENT_ENDS, SIMPLE_ENDS}
+use Rattle.rb_grammar_laws.proofs.Steps.{on, taken, passed, by-row, each, not-false, is_in, in-list, unseen, skipped, past-token, past-within, past-more, past-length, within-length, gap-within, ends-by, ends-unseen, ends-wider}
+use Rattle.rb_grammar_laws.proofs.Begins.{value-begins, statement-begins}
+use Rattle.rb_grammar_laws.proofs.Complete.{Reads, ReadsSome, Complete}
+use Rattle.rb_grammar_laws.proofs.Values.{value-read}
+
+none-of : {A : Type 0} (o : Option A) → is_none o ≡ true → o ≡ None
+none-of None e = refl
+none-of (Some a) e = absurd (cc)
+
+-- ---- jumps
+
+no-jump : (xs : List Token) → StartsWith TERMS xs → jump_of (peek xs) ≡ None
+no-jump [] h = refl
+no-jump (t ∷ ts) h = none-of _ (each (λ c. is_none (jump_of (Some c))) TERMS refl _ h)
+
+a-jump : (j : Token) (js : List Token) (word : Jump) → IsRow JUMP_WORDS (shape_of j.kind) word → jump_of (peek (j ∷ js)) ≡ Some word
+a-jump j js word row = by-row JUMP_WORDS (λ s w. jump_of (Some s) ≡ Some w) (refl, (refl, (refl, tt))) _ _ row
+
+no-value : (free : Bool) (xs : List Token) → Ends SIMPLE_ENDS free xs → has_value xs ≡ false
+unfolding has_value
+no-value free [] h = refl
+no-value free (t ∷ ts) h = not-false _ (each (λ c. not (begins_value c)) SIMPLE_ENDS refl _ h.0)
+
+a-value : (xs : List Token) → StartsWith TERMS xs → ¬ StartsWith MODIFIERS xs → has_value xs ≡ true
+unfolding has_value same_shape
+a-value [] h non = absurd h
+a-value (t ∷ ts) h non = go (is_in MODIFIERS (shape_of t.kind)) refl (each (λ c. is_in MODIFIERS c || begins_value c) TERMS refl _ h)
+  where
+    go : (b : Bool) → is_in MODIFIERS (shape_of t.kind) ≡ b → (b || begins_value (shape_of t.kind)) ≡ true → begins_value (shape_of t.kind) ≡ true
+    go true e f = absurd (non (in-list MODIFIERS _ e))
+    go false e f = f
+
+-- ---- modifiers
+
+no-modifier : (free : Bool) (xs : List Token) → Ends STATEMENT_ENDS free xs → modifier_of (peek xs) ≡ None
+no-modifier free [] h = refl
+no-modifier free (t ∷ ts) h = none-of _ (each (λ c. is_none (modifier_of (Some c))) STATEMENT_ENDS refl _ h.0)
+
+a-modifier : (m : Token) (ms : List Token) (word : Modifier) → IsRow MODIFIER_WORDS (shape_of m.kind) word → modifier_of (peek (m ∷ ms)) ≡ Some word
+a-modifier m ms word row = by-row MODIFIER_WORDS (λ s w. modifier_of (Some s) ≡ Some w) (refl, (refl, (refl, (refl, tt)))) _ _ row
+
+modified-ends : (free : Bool) (s t : Tree) (xs ys : List Token) → DerivesModified free s t xs ys → Ends STATEMENT_ENDS free ys → Ends SIMPLE_ENDS free xs
+unfolding same_shape
+modified-ends free s t xs ys (Unmodified _ _ _) ends = ends-wider STATEMENT_ENDS SIMPLE_ENDS refl free ys ends
+modified-ends free s t xs ys (Modified _ m word _ c _ us ps _ row d e) ends =
+    let h = by-row MODIFIER_WORDS (λ s w. (is_in SIMPLE_ENDS s ≡ true) × (same_shape s shape.Do ≡ false)) ((refl, refl), ((refl, refl), ((refl, refl), ((refl, refl), tt)))) _ _ row in
+    (in-list SIMPLE_ENDS _ h.0, λ f is. let e = h.1 in let g : false ≡ true = sym e ∙ shown shape.Do m us is in absurd (cc))
+
+-- ---- rows of statements
+
+begun : (xs : List Token) → StartsWith SIMPLE xs → begins_statement xs ≡ true
+unfolding begins_statement
+begun [] h = absurd h
+begun (t ∷ ts) h = each begins_simple SIMPLE refl _ h
+
+over : (free : Bool) (xs : List Token) → Ends BODY_ENDS free xs → begins_statement xs ≡ false
+unfolding begins_statement
+over free [] h = refl
+over free (t ∷ ts) h = not-false _ (each (λ c. not (begins_simple c)) BODY_ENDS refl _ h.0)
+
+gap-statement-ends : (free : Bool) (xs ys : List Token) → Gap xs ys → Ends BODY_ENDS free ys → Ends STATEMENT_ENDS free xs
+unfolding same_shape
+gap-statement-ends free xs ys (Closed _) h = ends-wider BODY_ENDS STATEMENT_ENDS refl free ys h
+gap-statement-ends free xs ys (Wide t us _ is g) h = ends-by STATEMENT_ENDS shape.Separator refl refl free t us is
+
+more-ends : (at : Site) (free : Bool) (ss : List Tree) (qs rs ys : List Token) → DerivesMore at free ss qs rs → Gap rs ys → Ends BODY_ENDS free ys → Ends STATEMENT_ENDS free qs
+unfolding same_shape
+more-ends at free ss qs rs ys (NoMore _ _ _) g h = gap-statement-ends free qs ys g h
+more-ends at free ss qs rs ys (Another _ _ t s more us ps vs _ is gap d e) g h = ends-by STATEMENT_ENDS shape.Separator refl refl free t us is
+
+module _ (nested : Form → Bool → Parser Tree) (turns : ℕ) (ih : Complete turns nested) where
+  pub simple-read : (constants free : Bool) (t : Tree) (xs ys : List Token) → DerivesSimple constants free t xs ys → Ends SIMPLE_ENDS free ys → length xs < turns → Reads (simple nested turns free constants) t xs ys
+  unfolding simple jump jump_value
+  simple-read constants free t xs ys (Valued _ _ _ _ _ d) ends fits =
+      let r = value-read nested turns ih constants free t xs ys d ends fits in
+      (ap (λ o. simple_by nested turns free constants o xs) (no-jump xs (value-begins constants free t xs ys d)) ∙ r.0, r.1)
+  simple-read constants free t xs ys (Jumps _ _ j word _ row) ends fits =
+      (ap (λ o. simple_by nested turns free constants o (j ∷ ys)) (a-jump j ys word row) ∙ on _ (passed _ _ (no-value free ys ends) refl) refl, past-token j (within-self _))
+  simple-read constants free t xs ys (JumpsWith _ _ j word v us _ row non d) ends fits =
+      let r = ih.value free v us ys fits d ends in
+      (ap (λ o. simple_by nested turns free constants o (j ∷ us)) (a-jump j us word row) ∙ on _ (taken _ _ (a-value us (value-begins false free v us ys d) non) (on _ r.0 refl)) refl, past-token j (past-within r.1))
+
+  modifiers-read : (free : Bool) (s t : Tree) (xs ys : List Token) → DerivesModified free s t xs ys → Ends STATEMENT_ENDS free ys → (n : ℕ) → length xs < n → length xs < turns → ReadsSome (modifiers_from nested turns free n s) t xs ys
+  unfolding modifiers_from modified operators.across
+  modifiers-read free s t xs ys d ends zero less fits = absurd (let h : ⊥ = omega arith in h)
+  modifiers-read free s t xs ys (Unmodified _ _ _) ends (suc n) less fits = (ap (λ o. modifiers_by nested turns free (modifiers_from nested turns free n) s o ys) (no-modifier free ys ends), within-self _)
+  modifiers-read free s t xs ys (Modified _ m word _ c _ us ps _ row d e) ends (suc n) less fits =
+      let r = ih.simple free c us ps fits d (modified-ends free _ t ps ys e ends) in
+      let short = past-length r.1 in
+      let l = modifiers-read free (tree.Modified s word c (across (span_of s) (span_of c))) t ps ys e ends n (let h : length ps < n = omega arith in h) (let h : length ps < turns = omega arith in h) in
+      (ap (λ o. modifiers_by nested turns free (modifiers_from nested turns free n) s o (m ∷ us)) (a-modifier m us word row) ∙ on _ (on _ r.0 refl) l.0, within-token m (within-more (past-within r.1) l.1))
+
+  pub simply-read : (constants free : Bool) (s t : Tree) (xs ps ys : List Token) → DerivesSimple constants free s xs ps → DerivesModified free s t ps ys → Ends STATEMENT_ENDS free ys → length xs < turns → Reads (statement nested turns free constants) t xs ys
+  unfolding statement modifiers
+  simply-read constants free s t xs ps ys d m ends fits =
+      let r = simple-read constants free s xs ps d (modified-ends free s t ps ys m ends) fits in
+      let short = past-length r.1 in
+      let l = modifiers-read free s t ps ys m ends turns (let h : length ps < turns = omega arith in h) (let h : length ps < turns = omega arith in h) in
+      (on _ r.0 l.0, past-more r.1 l.1)
+
+  statement-read : (free : Bool) (t : Tree) (xs ys : List Token) → DerivesStatement Inside free t xs ys → Ends STATEMENT_ENDS free ys → length xs < turns → Reads (statement nested turns free false) t xs ys
+  statement-read free t xs ys (Declared _ _ d _ _ is h) ends fits = absurd (let e : false ≡ true = is in cc)
+  statement-read free t xs ys (Simply _ _ s _ _ ps _ d m) ends fits = simply-read false free s t xs ps ys d m ends fits
+
+  -- ---- bodies
+
+  -- what stands behind a statement of a body
+  abbrev Behind : Bool → ℕ → ℕ → ℕ → List Tree → Parser Tree
+  Behind free start end n found = λ rest. if sees shape.Separator rest then body_from nested turns free false start end n found (skip_separators rest) else Ok (tree.Body found (record { start = start; end = end }), rest)
+
+  more-read : (free : Bool) (start : ℕ) (s : Tree) (ss : List Tree) (qs rs ys : List Token) → DerivesMore Inside free ss qs rs → Gap rs ys → Ends BODY_ENDS free ys → (n : ℕ) (found : List Tree) → length qs < n → length qs < turns →
+      ReadsSome (Behind free start (span_of s).end n found) (tree.Body (found ++ ss) (record { start = start; end = (span_of (last_of s ss)).end })) qs ys
+  unfolding body_from same_shape
+  more-read free start s ss qs rs ys d g ends zero found less fits = absurd (let h : ⊥ = omega arith in h)
+  more-read free start s ss qs rs ys (NoMore _ _ _) (Closed _) ends (suc n) found less fits =
+      (passed _ _ (ends-unseen shape.Separator BODY_ENDS refl free ys ends) (ap (λ all. Ok (tree.Body all (record { start = start; end = (span_of s).end }), ys)) (sym (append-nil found))), within-self _)
+  more-read free start s ss qs rs ys (NoMore _ _ _) (Wide t us _ is g) ends (suc n) found less fits =
+      let w = gap-within us ys g in (
+        taken _ _ (shown shape.Separator t us is) (ap (λ zs. body_from nested turns free false start (span_of s).end (suc n) found zs) (taken _ _ (shown shape.Separator t us is) (skipped us ys g (ends-unseen shape.Separator BODY_ENDS refl free ys ends)))
+            ∙ passed _ _ (over free ys ends) (ap (λ all. Ok (tree.Body all (record { start = start; end = (span_of s).end }), ys)) (sym (append-nil found)))),
+        within-token t w,
+      )
+  more-read free start s ss qs rs ys (Another _ _ t next more us ps vs _ is gap d e) g ends (suc n) found less fits =
+      let b = statement-begins free next ps vs d in
+      let w = gap-within us ps gap in
+      let short = within-length w in
+      let r = statement-read free next ps vs d (more-ends Inside free more vs rs ys e g ends) (let h : length ps < turns = omega arith in h) in
+      let short2 = past-length r.1 in
+      let l = more-read free start next more vs rs ys e g ends n (found ++ next ∷ []) (let h : length vs < n = omega arith in h) (let h : length vs < turns = omega arith in h) in (
+        taken _ _ (shown shape.Separator t us is) (ap (λ zs. body_from nested turns free false start (span_of s).end (suc n) found zs) (taken _ _ (shown shape.Separator t us is) (skipped us ps gap (unseen shape.Separator SIMPLE refl ps b)))
+            ∙ taken _ _ (begun ps b) (on _ r.0 (l.0 ∙ ap (λ all. Ok (tree.Body all (record { start = start; end = (span_of (last_of next more)).end }), ys)) (append_assoc found (next ∷ []) more)))),
+        within-token t (within-more w (within-more (past-within r.1) l.1)),
+      )
+
+  -- a statement that is read begins where its tokens do
+  starts-by : (s : Sound nested) (free : Bool) (t : Tree) (xs ys : List Token) (o : Outcome Tree) → o ≡ Ok (t, ys) → Holds o (sound.Statement nested s turns free Inside xs) → Starts t xs
+  starts-by s free t xs ys o e h = got (subst (λ o. Holds o (sound.Statement nested s turns free Inside xs)) e h)
+    where
+      got : Holds {A = Tree} (Ok (t, ys)) (sound.Statement nested s turns free Inside xs) → Starts t xs
+      got h = h.told.2
+
+  first-read : (sounds : Sound nested) (free : Bool) (s : Tree) (ss : List Tree) (ps qs rs ys : List Token) → DerivesStatement Inside free s ps qs → DerivesMore Inside free ss qs rs → Gap rs ys → Ends BODY_ENDS free ys → (n : ℕ) → length ps < n → length ps < turns →
+      ReadsSome (body_from nested turns free false (start_of ps) 0 n []) (body_of (s ∷ ss)) ps ys
+  unfolding body_from
+  first-read sounds free s ss ps qs rs ys d more g ends zero less fits = absurd (let h : ⊥ = omega arith in h)
+  first-read sounds free s ss ps qs rs ys d more g ends (suc n) less fits =
+      let r = statement-read free s ps qs d (more-ends Inside free ss qs rs ys more g ends) fits in
+      let short = past-length r.1 in
+      let starts = starts-by sounds free s ps qs _ r.0 (sound.statement-holds nested sounds turns free Inside ps) in
+      let l = more-read free (start_of ps) s ss qs rs ys more g ends n (s ∷ []) (let h : length qs < n = omega arith in h) (let h : length qs < turns = omega arith in h) in
+      (taken _ _ (begun ps (statement-begins free s ps qs d)) (on _ r.0 (l.0 ∙ ap (λ n. Ok (tree.Body (s ∷ ss) (record { start = n; end = (span_of (last_of s ss)).end }), ys)) (sym starts))), within-more (past-within r.1) l.1)
+
+  empty-read : (free : Bool) (ys : List Token) → Ends BODY_ENDS free ys → (n : ℕ) → length ys < n → body_from nested turns free false 0 0 n [] ys ≡ Ok (body_of [], ys)
+  unfolding body_from
+  empty-read free ys ends zero less = absurd (let h : ⊥ = omega arith in h)
+  empty-read free ys ends (suc n) less = passed _ _ (over free ys ends) refl
+
+  start-begun : (xs : List Token) → begins_statement xs ≡ true → body_start xs ≡ start_of xs
+  start-begun xs e = taken _ _ e refl
+
+  start-over : (xs : List Token) → begins_statement xs ≡ false → body_start xs ≡ 0
+  start-over xs e = passed _ _ e refl
+
+  pub body-read : (sounds : Sound nested) (free : Bool) (t : Tree) (xs ys : List Token) → DerivesBody Inside free t xs ys → Ends BODY_ENDS free ys → length xs < turns → ReadsSome (spec.body nested turns free false) t xs ys
+  unfolding spec.body statements same_shape
+  body-read sounds free t xs ys (NoStatement _ _ _ _ g) ends fits =
+      let w = gap-within xs ys g in
+      let short = within-length w in (
+        ap (λ zs. body_from nested turns free false (body_start zs) 0 turns [] zs) (skipped xs ys g (ends-unseen shape.Separator BODY_ENDS refl free ys ends))
+            ∙ ap (λ n. body_from nested turns free false n 0 turns [] ys) (start-over ys (over free ys ends)) ∙ empty-read free ys ends turns (let h : length ys < turns = omega arith in h),
+        w,
+      )
+  body-read sounds free t xs ys (Statements _ _ s ss _ ps qs rs _ g d more end) ends fits =
+      let b = statement-begins free s ps qs d in
+      let w = gap-within xs ps g in
+      let short = within-length w in
+      let r = first-read sounds free s ss ps qs rs ys d more end ends turns (let h : length ps < turns = omega arith in h) (let h : length ps < turns = omega arith in h) in (
+        ap (λ zs. body_from nested turns free false (body_start zs) 0 turns [] zs) (skipped xs ps g (unseen shape.Separator SIMPLE refl ps b))
+            ∙ ap (λ n. body_from nested turns free false n 0 turns [] ps) (start-begun ps (begun ps b)) ∙ r.0,
+        within-more w r.1,
+      )

@@ -1,0 +1,4 @@
+pub mod Ends
+pub mod Begins
+pub mod Laws
+pub mod Examples

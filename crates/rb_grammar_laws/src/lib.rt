@@ -1,0 +1,44 @@
+//! Laws on the grammar and the parser: what the grammar gives to tokens is what the parser answers of them, so that no tokens
+//! have two trees.
+//!
+//! `rb_grammar` has the other half: what the parser answers derives. `Begins` has what forms begin with, and `Ends` what may stand
+//! behind them, so that a form is read to its end and no further.
+#![tactic(auto)]
+
+ghost use Rattle.rb_grammar_laws.specs.Examples.{APART, DISORDER, EQUALITIES, HasNoTree, INNER, TWICE};
+ghost use Rattle.rb_grammar_laws.specs.Laws.{BodiesBegin, FormsAnswer, OneReading, OneTree, ParsedExactly, ProgramsAnswer, RefusedAreNone, SimpleBegin, TermsBegin};
+
+/// The first token of a term, of a simple statement and of a body is one of these.
+pub fn forms_begin()
+    ensures terms { TermsBegin }
+    ensures simple { SimpleBegin }
+    ensures bodies { BodiesBegin }
+{}
+
+/// What derives as a form, before tokens that end one, is read of it. So a form has one tree, and ends at one place.
+pub fn forms_answer()
+    ensures read { FormsAnswer }
+    ensures one { OneReading }
+{}
+
+/// What derives as a program is read of it, however deep it nests. `rb_decl` parses tokens to a tree exactly where the grammar gives
+/// it to them and they nest too deep nowhere.
+pub fn programs_answer()
+    ensures read { ProgramsAnswer }
+    ensures exactly { ParsedExactly }
+    ensures refused { RefusedAreNone }
+{}
+
+/// No tokens have two trees.
+pub fn one_tree()
+    ensures { OneTree }
+{}
+
+/// A few lists of tokens that are no program.
+pub fn examples_have_none()
+    ensures equalities { HasNoTree EQUALITIES }
+    ensures apart { HasNoTree APART }
+    ensures disorder { HasNoTree DISORDER }
+    ensures twice { HasNoTree TWICE }
+    ensures inner { HasNoTree INNER }
+{}
