@@ -1,0 +1,94 @@
+-- `if`, `unless`, `while`, `until` and `case` are read alike.
+use Rattle.std.proofs.Common.{◌≡◌, ℕ, ◌-◌, Bool, true, false, ◌||◌, if◌then◌else◌, List, [], ◌∷◌, ◌++◌, Some, Ok, refl}
+use Rattle.rb_tree.specs.declared.syntax.Arm.{Arm}
+use Rattle.rb_tree.specs.declared.syntax.Test.{Test}
+use Rattle.rb_tree.specs.declared.syntax.Test.TheVariants as test
+use Rattle.rb_tree.specs.declared.syntax.Tree.{Tree}
+use Rattle.rb_tree.specs.declared.syntax.When.{When}
+use Rattle.rb_tree.specs.declared.token.Token.{Token}
+use Rattle.rb_tree.specs.declared.token.Shape.TheVariants as shape
+use Rattle.rb_expr.specs.declared.form.Form.{Form}
+use Rattle.rb_expr.specs.declared.form.Form.TheVariants as form
+use Rattle.rb_expr.specs.Reading.{Outcome, Parser, ◌<$>◌, sees, after, skip_separators}
+use Rattle.rb_expr.specs.Branches.{after_then, then_word, do_word, otherwise, elsif_arm, elsif_arms_from, elsif_arms, arms_of, branch, repeated, subject, patterns_from, patterns, when_arm, when_arms_from, when_arms, choice}
+use Rattle.rb_prefix_laws.proofs.Steps.{Alike, likewise, bind, join, weaker, one, choose, sees-one, done, expecting, taking, stepping, skipping, Fits, less-fits, loop-in, loop-at}
+use Rattle.rb_prefix_laws.proofs.Steps.Amount.{answer, any}
+use Rattle.rb_prefix_laws.proofs.Nested.{Nests}
+
+-- a `then` that is passed over behind a separator
+then-over : {A : Type 0} (k : ℕ) (a : A) (xs : List Token) → Alike k (any 0) xs (Ok (a, after_then xs)) (λ ys. Ok (a, after_then ys))
+then-over {A = A} k a xs = likewise xs (λ ys. if sees shape.Then ys then Ok (a, after ys) else Ok (a, ys)) (λ ys. Ok (a, after_then ys)) (λ ys. either (after ys) ys (sees shape.Then ys))
+    (choose (sees shape.Then) (sees-one shape.Then) (λ e. weaker (stepping xs (λ ys. Ok (a, ys)) (λ ys. Ok (a, ys)) shape.Then e (done a))) (λ e. done a))
+  where
+    left : List Token → Outcome A
+    left us = Ok (a, us)
+
+    either : (us vs : List Token) (b : Bool) → left (if b then us else vs) ≡ (if b then left us else left vs)
+    either us vs true = refl
+    either us vs false = refl
+
+then-alike : (k : ℕ) (xs : List Token) → Alike k (answer 0) xs (then_word xs) then_word
+unfolding then_word
+then-alike k xs = choose (sees shape.Then) (sees-one shape.Then) (λ e. expecting shape.Then xs) (λ e. bind (expecting shape.Separator xs) (λ mark r. then-over (k - 1) mark r))
+
+do-word-alike : (k : ℕ) (xs : List Token) → Alike k (answer 0) xs (do_word xs) do_word
+unfolding do_word
+do-word-alike k xs = choose (sees shape.Do) (sees-one shape.Do) (λ e. expecting shape.Do xs) (λ e. expecting shape.Separator xs)
+
+module _ (nested other : Form → Bool → Parser Tree) (turns more : ℕ) (ih : Nests nested other turns more) (free : Bool) where
+  otherwise-alike : (k : ℕ) → Fits turns more k → (xs : List Token) → Alike k (any 0) xs (otherwise nested turns free xs) (otherwise other more free)
+  unfolding otherwise
+  otherwise-alike k fit xs = choose (sees shape.Else) (sees-one shape.Else)
+      (λ e. weaker (stepping xs (Some <$> nested form.Body free) (Some <$> other form.Body free) shape.Else e (bind ((ih k fit).reads form.Body free (after xs)) (λ b r. done _))))
+      (λ e. done _)
+
+  elsif-alike : (k : ℕ) → Fits turns more k → (xs : List Token) → Alike k (answer 0) xs (elsif_arm nested turns free xs) (elsif_arm other more free)
+  unfolding elsif_arm
+  elsif-alike k fit xs = bind (expecting shape.Elsif xs) (λ mark r. bind ((ih k fit).reads form.Simple free r) (λ condition r. join (weaker (then-alike (k - 1) r)) (λ word r. bind ((ih k fit).reads form.Body free r) (λ body r. done _))))
+
+  elsif-arms-alike : (k : ℕ) → Fits turns more k → (xs : List Token) → Alike k (any 0) xs (elsif_arms nested turns free xs) (elsif_arms other more free)
+  unfolding elsif_arms elsif_arms_from
+  elsif-arms-alike k fit xs = loop-at {S = List (Arm Tree)} turns more (λ n s. elsif_arms_from nested turns free n s) (λ n s. elsif_arms_from other more free n s)
+      (λ k n m fit again s xs. choose (sees shape.Elsif) (sees-one shape.Elsif) (λ e. weaker (bind (elsif-alike k fit xs) (λ arm r. again (s ++ arm ∷ []) r))) (λ e. done _))
+      k fit [] xs
+
+  arms-alike : (k : ℕ) → Fits turns more k → (how : Test) (xs : List Token) → Alike k (any 0) xs (arms_of nested turns free how xs) (arms_of other more free how)
+  unfolding arms_of
+  arms-alike k fit test.Positive xs = elsif-arms-alike k fit xs
+  arms-alike k fit test.Negative xs = done _
+
+  pub branch-alike : (k : ℕ) → Fits turns more k → (how : Test) (xs : List Token) → Alike k (answer 0) xs (branch nested turns free how xs) (branch other more free how)
+  unfolding branch
+  branch-alike k fit how xs = let less = less-fits fit in bind (taking xs) (λ mark r. bind ((ih k fit).reads form.Simple free r) (λ condition r. join (weaker (then-alike (k - 1) r)) (λ word r. bind ((ih k fit).reads form.Body free r) (λ body r.
+      bind (arms-alike (k - 1) less how r) (λ arms r. bind (otherwise-alike (k - 1) less r) (λ rest r. weaker (bind (expecting shape.End r) (λ closing r. done _))))))))
+
+  pub repeated-alike : (k : ℕ) → Fits turns more k → (how : Test) (xs : List Token) → Alike k (answer 0) xs (repeated nested turns free how xs) (repeated other more free how)
+  unfolding repeated
+  repeated-alike k fit how xs = bind (taking xs) (λ mark r. bind ((ih k fit).reads form.Simple false r) (λ condition r. join (weaker (do-word-alike (k - 1) r)) (λ word r. bind ((ih k fit).reads form.Body free r) (λ body r. weaker (bind (expecting shape.End r) (λ closing r. done _))))))
+
+  -- behind `case`
+  subject-alike : (k : ℕ) → Fits turns more k → (xs : List Token) → Alike (k - 1) (any 0) xs (subject nested turns free xs) (subject other more free)
+  unfolding subject
+  subject-alike k fit xs = choose (λ ys. sees shape.Separator ys || sees shape.When ys) (one (λ ys. sees shape.Separator ys || sees shape.When ys) (λ t ts. refl)) (λ e. done _) (λ e. bind ((ih k fit).reads form.Simple free xs) (λ value r. done _))
+
+  patterns-alike : (k : ℕ) → Fits turns more k → (xs : List Token) → Alike (k - 1) (any 0) xs (patterns nested turns free xs) (patterns other more free)
+  unfolding patterns patterns_from
+  patterns-alike k fit xs = loop-in {S = List Tree} turns more (λ n s. patterns_from nested turns free n s) (λ n s. patterns_from other more free n s)
+      (λ k n m fit again s xs. bind ((ih k fit).reads form.Tern free xs) (λ pattern r. choose (sees shape.Comma) (sees-one shape.Comma)
+      (λ e. weaker (stepping r (patterns_from nested turns free n (s ++ pattern ∷ [])) (patterns_from other more free m (s ++ pattern ∷ [])) shape.Comma e (again (s ++ pattern ∷ []) (after r))))
+      (λ e. done _)))
+      k fit [] xs
+
+  when-alike : (k : ℕ) → Fits turns more k → (xs : List Token) → Alike k (answer 0) xs (when_arm nested turns free xs) (when_arm other more free)
+  unfolding when_arm
+  when-alike k fit xs = bind (expecting shape.When xs) (λ mark r. bind (patterns-alike k fit r) (λ found r. join (weaker (then-alike (k - 1) r)) (λ word r. bind ((ih k fit).reads form.Body free r) (λ body r. done _))))
+
+  when-arms-alike : (k : ℕ) → Fits turns more k → (xs : List Token) → Alike k (any 0) xs (when_arms nested turns free xs) (when_arms other more free)
+  unfolding when_arms when_arms_from
+  when-arms-alike k fit xs = loop-at {S = List (When Tree)} turns more (λ n s. when_arms_from nested turns free n s) (λ n s. when_arms_from other more free n s)
+      (λ k n m fit again s xs. weaker (bind (when-alike k fit xs) (λ arm r. choose (sees shape.When) (sees-one shape.When) (λ e. again (s ++ arm ∷ []) r) (λ e. done _))))
+      k fit [] xs
+
+  pub choice-alike : (k : ℕ) → Fits turns more k → (xs : List Token) → Alike k (answer 0) xs (choice nested turns free xs) (choice other more free)
+  unfolding choice
+  choice-alike k fit xs = let less = less-fits fit in bind (taking xs) (λ mark r. bind (subject-alike k fit r) (λ given r. bind (skipping r (when_arms nested turns free) (when_arms other more free) (when-arms-alike (k - 1) less (skip_separators r))) (λ arms r. bind (otherwise-alike (k - 1) less r) (λ rest r. weaker (bind (expecting shape.End r) (λ closing r. done _))))))

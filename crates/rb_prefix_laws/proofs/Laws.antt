@@ -1,0 +1,66 @@
+-- The laws.
+use Rattle.std.proofs.Common.{◌≡◌, ℕ, suc, ◌+◌, ◌-◌, ◌≤◌, ◌<◌, Bool, List, [], ◌∷◌, ◌++◌, length, Ok, Err, refl, sym, ap, subst, ◌∙◌, append_assoc, arith}
+use Rattle.rb_tree.specs.declared.syntax.Tree.{Tree}
+use Rattle.rb_tree.specs.declared.token.Token.{Token}
+use Rattle.rb_expr.specs.Grammar.{parsed}
+use Rattle.rb_expr.specs.Reading.{Outcome}
+use Rattle.rb_expr.specs.declared.form.Form.{Form}
+use Rattle.rb_grammar.specs.Grammar.{Derives}
+use Rattle.rb_grammar_laws.proofs.Answers.{programs-answer}
+use Rattle.rb_prefix_laws.specs.Laws.{FormsAreRefusedAlike, FormsEndAlike, FormsNeedNoMoreDepth, RefusalsLookNoFurther, ProgramsNeedNoMoreDepth, RefusalsAreEnds, NoProgramBeginsSo}
+use Rattle.rb_prefix_laws.proofs.Steps.{Alike, rest_of, instead, fits-turns}
+use Rattle.rb_prefix_laws.proofs.Steps.Amount.{any}
+use Rattle.rb_prefix_laws.proofs.Forms.{nests}
+use Rattle.rb_prefix_laws.proofs.Programs.{again-same, again-other, same-program, refused-alike, refusal-ends}
+
+-- ---- forms
+
+form-read : (k d e : ℕ) → k ≤ d → k ≤ e → (f : Form) (free : Bool) (xs : List Token) → Alike (k - 1) (any 0) xs (parsed d f free xs) (parsed e f free)
+form-read k d e a b f free xs = (nests d e k (fits-turns a b)).reads f free xs
+
+pub forms-need-no-more-depth : FormsNeedNoMoreDepth
+forms-need-no-more-depth depth other f free tokens a b =
+    sym (again-same (length tokens + 2 - 1) tokens (parsed depth f free tokens) (parsed other f free) (form-read (length tokens + 2) depth other (omega arith) (omega arith) f free tokens) (omega arith))
+
+form-other : (d : ℕ) (f : Form) (free : Bool) (before : List Token) (next : Token) (behind others : List Token) → suc (length (before ++ next ∷ behind)) < d → suc (length (before ++ next ∷ others)) < d → (o : Outcome Tree) →
+    parsed d f free (before ++ next ∷ behind) ≡ o → rest_of o ≡ next ∷ behind → parsed d f free (before ++ next ∷ others) ≡ instead o (next ∷ others)
+form-other d f free before next behind others a b o e r =
+    again-other (d - 1) before next behind others (parsed d f free (before ++ next ∷ behind)) (parsed d f free) (form-read d d d (omega arith) (omega arith) f free (before ++ next ∷ behind)) (omega arith) (omega arith) (ap rest_of e ∙ r)
+    ∙ ap (λ o. instead o (next ∷ others)) e
+
+-- at depths of their own
+form-at : (d e : ℕ) (f : Form) (free : Bool) (before : List Token) (next : Token) (behind others : List Token) → suc (length (before ++ next ∷ behind)) < d → suc (length (before ++ next ∷ others)) < e → (o : Outcome Tree) →
+    parsed d f free (before ++ next ∷ behind) ≡ o → rest_of o ≡ next ∷ behind → parsed e f free (before ++ next ∷ others) ≡ instead o (next ∷ others)
+form-at d e f free before next behind others a b o h r =
+    let deep : suc (length (before ++ next ∷ behind)) < d + e = omega arith in
+    let deep' : suc (length (before ++ next ∷ others)) < d + e = omega arith in
+    forms-need-no-more-depth e (d + e) f free (before ++ next ∷ others) b deep'
+    ∙ form-other (d + e) f free before next behind others deep deep' o (forms-need-no-more-depth (d + e) d f free (before ++ next ∷ behind) deep a ∙ h) r
+
+pub forms-are-refused-alike : FormsAreRefusedAlike
+forms-are-refused-alike depth other f free before bad behind others a b e = form-at depth other f free before bad behind others a b (Err (bad ∷ behind)) e refl
+
+pub forms-end-alike : FormsEndAlike
+forms-end-alike depth other f free t before next behind others a b e = form-at depth other f free before next behind others a b (Ok (t, next ∷ behind)) e refl
+
+-- ---- programs
+
+pub programs-need-no-more-depth : ProgramsNeedNoMoreDepth
+programs-need-no-more-depth depth other tokens a b = same-program depth other tokens a b
+
+pub refusals-look-no-further : RefusalsLookNoFurther
+refusals-look-no-further depth other before bad behind others a b e =
+    let deep : length (before ++ bad ∷ behind) < depth + other = omega arith in
+    let deep' : length (before ++ bad ∷ others) < depth + other = omega arith in
+    same-program other (depth + other) (before ++ bad ∷ others) b deep'
+    ∙ refused-alike (depth + other) before bad behind others deep deep' (same-program (depth + other) depth (before ++ bad ∷ behind) deep a ∙ e)
+
+pub no-program-begins-so : NoProgramBeginsSo
+no-program-begins-so before bad behind e (more, t, derives) =
+    let d : Derives (before ++ bad ∷ more) t = subst (λ us. Derives us t) (append_assoc before (bad ∷ []) more) derives in
+    let ok = programs-answer (before ++ bad ∷ more) t d in
+    let no' = refusals-look-no-further (length (before ++ bad ∷ behind) + 2) (length (before ++ bad ∷ more) + 2) before bad behind more (omega arith) (omega arith) e in
+    absurd (cc)
+
+pub refusals-are-ends : RefusalsAreEnds
+refusals-are-ends depth tokens rest less e = refusal-ends depth tokens rest less e

@@ -1,0 +1,14 @@
+use Rattle.rb_prefix_laws.proofs.Examples.{none-is-closed, none-is-nameless, none-names-twice, shallow-looks-further}
+use Rattle.rb_prefix_laws.proofs.examples_are_refused.Goals as goal
+
+pub returns-clause-closed : goal.returns-clause-closed
+returns-clause-closed c = none-is-closed
+
+pub returns-clause-nameless : goal.returns-clause-nameless
+returns-clause-nameless c = none-is-nameless
+
+pub returns-clause-twice : goal.returns-clause-twice
+returns-clause-twice c = none-names-twice
+
+pub returns-clause-shallow : goal.returns-clause-shallow
+returns-clause-shallow c = shallow-looks-further

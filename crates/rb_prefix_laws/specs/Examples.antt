@@ -1,0 +1,49 @@
+-- A few fronts of programs with which none goes on.
+use Rattle.std.specs.Prelude.{◌≡◌, List, [], ◌∷◌, ◌++◌, codes, Err}
+use Rattle.rb_tree.specs.declared.token.Token.{Token}
+use Rattle.rb_tree.specs.declared.token.TokenKind.TheVariants as kind
+use Rattle.rb_decl.specs.Programs.{program}
+use Rattle.rb_grammar.specs.Examples.{token}
+use Rattle.rb_grammar.specs.Grammar.{Begins}
+
+-- `1 )`: a bracket that none opens
+abbrev pub CLOSED : List Token
+CLOSED = token (kind.Whole (codes "1")) 0 1 ∷ token kind.CloseParen 2 3 ∷ []
+
+-- `x.1`: no name behind the dot
+abbrev pub NAMELESS : List Token
+NAMELESS = token (kind.Identifier (codes "x")) 0 1 ∷ token kind.Dot 1 2 ∷ token (kind.Whole (codes "1")) 2 3 ∷ []
+
+-- `def f(a, a`: a parameter's name stands twice
+abbrev pub TWICE : List Token
+TWICE =
+    token kind.Def 0 3 ∷ token (kind.Identifier (codes "f")) 4 5 ∷ token kind.OpenParen 5 6 ∷ token (kind.Identifier (codes "a")) 6 7 ∷ token kind.Comma 7 8
+    ∷ token (kind.Identifier (codes "a")) 9 10 ∷ []
+
+abbrev pub NoneIsClosed : Type 0
+NoneIsClosed = ¬ Begins CLOSED
+
+abbrev pub NoneIsNameless : Type 0
+NoneIsNameless = ¬ Begins NAMELESS
+
+abbrev pub NoneNamesTwice : Type 0
+NoneNamesTwice = ¬ Begins TWICE
+
+-- ---- where the depth is not enough
+
+-- `[-2`
+abbrev pub OPENED : List Token
+OPENED = token kind.OpenBracket 0 1 ∷ token kind.Minus 1 2 ∷ token (kind.Whole (codes "2")) 2 3 ∷ []
+
+abbrev pub POWERED : Token
+POWERED = token kind.Power 3 5
+
+abbrev pub BRACKET : Token
+BRACKET = token kind.CloseBracket 3 4
+
+-- A depth of 1 is not enough for these tokens: there the number is refused before `**`, and is none before `]`. So the laws ask that
+-- the depth be enough.
+abbrev pub ShallowLooksFurther : Type 0
+ShallowLooksFurther =
+    (program 1 (OPENED ++ POWERED ∷ []) ≡ Err (token (kind.Whole (codes "2")) 2 3 ∷ POWERED ∷ []))
+    × (program 1 (OPENED ++ BRACKET ∷ []) ≡ Err (BRACKET ∷ []))

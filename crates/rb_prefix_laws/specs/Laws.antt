@@ -1,0 +1,62 @@
+-- The parser looks no further than the next token: what stands behind that plays no part in what is answered.
+use Rattle.std.specs.Prelude.{◌≡◌, ◌⊎◌, ℕ, suc, ◌+◌, ◌<◌, Bool, List, [], ◌∷◌, ◌++◌, length, Ok, Err}
+use Rattle.rb_tree.specs.declared.syntax.Tree.{Tree}
+use Rattle.rb_tree.specs.declared.token.Token.{Token}
+use Rattle.rb_expr.specs.declared.form.Form.{Form}
+use Rattle.rb_expr.specs.Grammar.{parsed}
+use Rattle.rb_expr.specs.declared.ParseEnd.TheVariants.{Bad}
+use Rattle.rb_decl.specs.Programs.{program, parsed as parsed_program, end_of}
+use Rattle.rb_grammar.specs.Grammar.{Begins, Derives}
+
+-- ---- forms
+
+-- Where reading a form is refused at a token, it is refused there whatever stands behind that.
+abbrev pub FormsAreRefusedAlike : Type 0
+FormsAreRefusedAlike = (depth other : ℕ) (f : Form) (free : Bool) (before : List Token) (bad : Token) (behind others : List Token) → suc (length (before ++ bad ∷ behind)) < depth → suc (length (before ++ bad ∷ others)) < other →
+    parsed depth f free (before ++ bad ∷ behind) ≡ Err (bad ∷ behind) → parsed other f free (before ++ bad ∷ others) ≡ Err (bad ∷ others)
+
+-- Where a form ends before a token, the same is read of it whatever stands behind that.
+abbrev pub FormsEndAlike : Type 0
+FormsEndAlike = (depth other : ℕ) (f : Form) (free : Bool) (t : Tree) (before : List Token) (next : Token) (behind others : List Token) → suc (length (before ++ next ∷ behind)) < depth → suc (length (before ++ next ∷ others)) < other →
+    parsed depth f free (before ++ next ∷ behind) ≡ Ok (t, next ∷ behind) → parsed other f free (before ++ next ∷ others) ≡ Ok (t, next ∷ others)
+
+-- A depth that is enough for the tokens plays no part.
+abbrev pub FormsNeedNoMoreDepth : Type 0
+FormsNeedNoMoreDepth = (depth other : ℕ) (f : Form) (free : Bool) (tokens : List Token) → suc (length tokens) < depth → suc (length tokens) < other → parsed depth f free tokens ≡ parsed other f free tokens
+
+-- ---- programs
+
+-- Where a program is refused at a token, it is refused there whatever stands behind that.
+abbrev pub RefusalsLookNoFurther : Type 0
+RefusalsLookNoFurther = (depth other : ℕ) (before : List Token) (bad : Token) (behind others : List Token) → length (before ++ bad ∷ behind) < depth → length (before ++ bad ∷ others) < other →
+    program depth (before ++ bad ∷ behind) ≡ Err (bad ∷ behind) → program other (before ++ bad ∷ others) ≡ Err (bad ∷ others)
+
+abbrev pub ProgramsNeedNoMoreDepth : Type 0
+ProgramsNeedNoMoreDepth = (depth other : ℕ) (tokens : List Token) → length tokens < depth → length tokens < other → program depth tokens ≡ program other tokens
+
+-- What is refused is an end of the tokens.
+abbrev pub RefusalsAreEnds : Type 0
+RefusalsAreEnds = (depth : ℕ) (tokens rest : List Token) → length tokens < depth → program depth tokens ≡ Err rest → (before : List Token) × (tokens ≡ before ++ rest)
+
+-- So no program begins with the tokens up to and with the refused one.
+abbrev pub NoProgramBeginsSo : Type 0
+NoProgramBeginsSo = (before : List Token) (bad : Token) (behind : List Token) → program (length (before ++ bad ∷ behind) + 2) (before ++ bad ∷ behind) ≡ Err (bad ∷ behind) → ¬ Begins (before ++ bad ∷ [])
+
+-- ---- the places of refusals
+
+-- a token begins there with which no program goes on: none begins with the tokens up to and with it
+pub record IsRefusedAt (tokens : List Token) (at : ℕ) : Type 0 where
+  pub before : List Token
+  pub bad : Token
+  pub behind : List Token
+  pub whole : tokens ≡ before ++ bad ∷ behind
+  pub place : at ≡ bad.span.start
+  pub none : ¬ Begins (before ++ bad ∷ [])
+
+-- the tokens end there, and they are no program
+abbrev pub EndsShort : List Token → ℕ → Type 0
+EndsShort tokens at = (at ≡ end_of tokens) × ((t : Tree) → ¬ Derives tokens t)
+
+-- Where tokens are refused for what they are, and not for their depth, it is at such a place.
+abbrev pub BadPlaces : Type 0
+BadPlaces = (tokens : List Token) (at : ℕ) → parsed_program tokens ≡ Err (Bad at) → IsRefusedAt tokens at ⊎ EndsShort tokens at
