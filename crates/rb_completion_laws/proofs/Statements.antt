@@ -1,0 +1,289 @@
+-- Statements that are begun can be completed, and bodies of them.
+use Rattle.std.proofs.Common.{◌≡◌, ℕ, zero, suc, Bool, true, false, ◌&&◌, if◌then◌else◌, List, [], ◌∷◌, ◌++◌, Option, Some, None, inl, inr, refl, sym, ap, subst, ⊎_elim}
+use Rattle.rb_tree.specs.Tokens.{shape_of}
+use Rattle.rb_tree.specs.Trees.{span_of}
+use Rattle.rb_tree.specs.declared.syntax.Argument.{Argument}
+use Rattle.rb_tree.specs.declared.syntax.Binary.{Binary}
+use Rattle.rb_tree.specs.declared.syntax.Jump.{Jump}
+use Rattle.rb_tree.specs.declared.syntax.Modifier.{Modifier}
+use Rattle.rb_tree.specs.declared.syntax.Tree.{Tree}
+use Rattle.rb_tree.specs.declared.token.Token.{Token}
+use Rattle.rb_tree.specs.declared.token.Shape.{Shape}
+use Rattle.rb_tree.specs.declared.token.Shape.TheVariants as shape
+use Rattle.rb_expr.specs.declared.ending.Ending.{Ending}
+use Rattle.rb_expr.specs.declared.ending.Ending.TheVariants as ending
+use Rattle.rb_expr.specs.declared.ending.Follower.TheVariants as follower
+use Rattle.rb_expr.specs.declared.form.Form.{Form}
+use Rattle.rb_expr.specs.Operators as operators
+use Rattle.rb_expr.specs.Reading.{Outcome, Parser, peek, skip_separators}
+use Rattle.rb_expr.specs.Shapes.{begins_value, has_value, has_prefix, begins_statement, jump_of, modifier_of, assigning_of}
+use Rattle.rb_expr.specs.Statements as spec
+use Rattle.rb_expr.specs.Statements.{ending_of, is_target, is_plain_target, is_callee, begin_arguments, other_follower, operator_follower, follower_by, follower_of, assigned, operator_assigned, command, followed_by, followed, from_operand, jump_value, simple_by, simple, modified, modifiers_by, modifiers_from, modifiers, statement, body_start, body_from, statements}
+use Rattle.rb_grammar.specs.Tokens.{Is, IsOneOf, StartsWith}
+use Rattle.rb_grammar.specs.Forms.{Site, is_open, ASSIGNMENTS, MODIFIERS, NO_COMMAND}
+use Rattle.rb_grammar.specs.Grammar.{IsRow, MODIFIER_WORDS, JUMP_WORDS, DerivesModified}
+use Rattle.rb_grammar.specs.Grammar.DerivesStatement.{Simply}
+use Rattle.rb_grammar.specs.Grammar.DerivesModified.{Unmodified, Modified}
+use Rattle.rb_grammar.specs.Grammar.DerivesSimple.{Valued, Jumps, JumpsWith}
+use Rattle.rb_grammar.specs.Grammar.DerivesValue.{Term, Assigns, Computes, Command}
+use Rattle.rb_grammar.specs.Grammar.DerivesDo.{NoDo}
+use Rattle.rb_grammar.specs.Grammar.DerivesLevel.{Plainly}
+use Rattle.rb_grammar.proofs.Lists.{and-left, and-right}
+use Rattle.rb_completion_laws.proofs.Steps.{Rel, This, Fits, Reach, Stands, Seq, reach-as, reach-more, reach-this, reach-fits, complete-as, complete-behind, complete-fits, bind, goes-as, choosing, Plain, plainly, seq, done, refusing, answering, headed, parted, One, one-stands, expecting, Perhaps, perhaps-stands, nothing, fits-start}
+use Rattle.rb_completion_laws.proofs.Viable.{Viable, ABody, AStatement, ASimple, AValue, ATarget, ACallee, Uses, negated-term, value-stands}
+use Rattle.rb_completion_laws.proofs.Calls.{Bare, SomeBare, bare-goes, Commanded, command-block-goes}
+use Rattle.rb_completion_laws.proofs.Bodies.{Row, row-more, further-goes, body-of}
+use Rattle.rb_completion_laws.proofs.Suffixes.{Post, post-goes}
+use Rattle.rb_completion_laws.proofs.Operators.{Reads, behind-goes, tern-goes}
+use Rattle.rb_tree.specs.declared.token.TokenKind.TheVariants as kind
+
+-- ---- tables of words and operators
+
+abbrev Assigning : Shape → Option Binary → Type 0
+Assigning s None = Unit {0}
+Assigning s (Some operator) = IsRow ASSIGNMENTS s operator
+
+assigning : (s : Shape) → Assigning s (assigning_of (Some s))
+assigning shape.PlusAssign = inl (refl, refl)
+assigning shape.MinusAssign = inr (inl (refl, refl))
+assigning shape.StarAssign = inr (inr (inl (refl, refl)))
+assigning shape.SlashAssign = inr (inr (inr (inl (refl, refl))))
+assigning shape.PercentAssign = inr (inr (inr (inr (inl (refl, refl)))))
+assigning shape.PowerAssign = inr (inr (inr (inr (inr (inl (refl, refl))))))
+assigning shape.OrAssign = inr (inr (inr (inr (inr (inr (inl (refl, refl)))))))
+assigning shape.AndAssign = inr (inr (inr (inr (inr (inr (inr (inl (refl, refl))))))))
+assigning shape.PipeAssign = inr (inr (inr (inr (inr (inr (inr (inr (inl (refl, refl)))))))))
+assigning shape.AmpersandAssign = inr (inr (inr (inr (inr (inr (inr (inr (inr (inl (refl, refl))))))))))
+assigning shape.CaretAssign = inr (inr (inr (inr (inr (inr (inr (inr (inr (inr (inl (refl, refl)))))))))))
+assigning shape.ShiftLeftAssign = inr (inr (inr (inr (inr (inr (inr (inr (inr (inr (inr (inl (refl, refl))))))))))))
+assigning shape.ShiftRightAssign = inr (inr (inr (inr (inr (inr (inr (inr (inr (inr (inr (inr (inl (refl, refl)))))))))))))
+assigning s = tt
+
+abbrev Jumping : Shape → Option Jump → Type 0
+Jumping s None = Unit {0}
+Jumping s (Some word) = IsRow JUMP_WORDS s word
+
+jumping : (s : Shape) → Jumping s (jump_of (Some s))
+jumping shape.Return = inl (refl, refl)
+jumping shape.Break = inr (inl (refl, refl))
+jumping shape.Next = inr (inr (inl (refl, refl)))
+jumping s = tt
+
+abbrev Modifying : Shape → Option Modifier → Type 0
+Modifying s None = Unit {0}
+Modifying s (Some word) = IsRow MODIFIER_WORDS s word
+
+modifying : (s : Shape) → Modifying s (modifier_of (Some s))
+modifying shape.If = inl (refl, refl)
+modifying shape.Unless = inr (inl (refl, refl))
+modifying shape.While = inr (inr (inl (refl, refl)))
+modifying shape.Until = inr (inr (inr (inl (refl, refl))))
+modifying s = tt
+
+-- the test fails on each of the list
+abbrev AllFail : (Shape → Bool) → List Shape → Type 0
+AllFail test [] = Unit {0}
+AllFail test (s ∷ ss) = (test s ≡ false) × AllFail test ss
+
+none-of : (test : Shape → Bool) (ss : List Shape) → AllFail test ss → (s : Shape) → test s ≡ true → IsOneOf ss s → ⊥
+none-of test [] each s e h = h
+none-of test (x ∷ ss) each s e (inl is) = let one : test s ≡ test x = ap test is in let other = each.0 in absurd (cc)
+none-of test (x ∷ ss) each s e (inr h) = none-of test ss each.1 s e h
+
+no-command : (xs : List Token) → begin_arguments (peek xs) ≡ true → ¬ StartsWith NO_COMMAND xs
+no-command [] e h = h
+no-command (t ∷ ts) e h = none-of (λ s. begin_arguments (Some s)) NO_COMMAND (refl, (refl, (refl, (refl, (refl, (refl, (refl, (refl, (refl, (refl, (refl, (refl, (refl, (refl, (refl, (refl, tt)))))))))))))))) (shape_of t.kind) e h
+
+no-modifier : (xs : List Token) → has_value xs ≡ true → ¬ StartsWith MODIFIERS xs
+unfolding has_value
+no-modifier [] e h = h
+no-modifier (t ∷ ts) e h = none-of begins_value MODIFIERS (refl, (refl, (refl, (refl, tt)))) (shape_of t.kind) e h
+
+fits-command : (xs us : List Token) → ¬ StartsWith NO_COMMAND xs → Fits xs us → ¬ StartsWith NO_COMMAND us
+fits-command xs us none f = fits-start NO_COMMAND (refl, (refl, (refl, (refl, (refl, (refl, (refl, (refl, (refl, (refl, (refl, (refl, (refl, (refl, (refl, (refl, tt)))))))))))))))) xs us f none
+
+fits-modifier : (xs us : List Token) → ¬ StartsWith MODIFIERS xs → Fits xs us → ¬ StartsWith MODIFIERS us
+fits-modifier xs us none f = fits-start MODIFIERS (refl, (refl, (refl, (refl, tt)))) xs us f none
+
+module _ (nested : Form → Bool → Parser Tree) (ih : Viable nested) (turns : ℕ) (free : Bool) where
+  abbrev Reads' : List Token → Outcome Tree → Rel → Type 0
+  Reads' = Reads nested ih turns free
+
+  -- ---- what follows an operand
+
+  target-of : (e : Ending) (us zs : List Token) → Uses e free us zs → is_target e ≡ true → (constants : Bool) → ATarget constants free us zs
+  target-of ending.Name us zs u h constants = u.0 constants
+  target-of ending.Target us zs u h constants = u constants
+  target-of ending.Callee us zs u h constants = absurd (cc)
+  target-of ending.Constant us zs u h constants = absurd (cc)
+  target-of ending.Other us zs u h constants = absurd (cc)
+
+  plain-target-of : (constants : Bool) (e : Ending) (us zs : List Token) → Uses e free us zs → is_plain_target constants e ≡ true → ATarget constants free us zs
+  plain-target-of constants ending.Name us zs u h = u.0 constants
+  plain-target-of constants ending.Target us zs u h = u constants
+  plain-target-of constants ending.Callee us zs u h = absurd (cc)
+  plain-target-of constants ending.Constant us zs u h = subst (λ c. ATarget c free us zs) (sym h) u
+  plain-target-of constants ending.Other us zs u h = absurd (cc)
+
+  callee-of : (e : Ending) (us zs : List Token) → Uses e free us zs → is_callee e ≡ true → ACallee free us zs
+  callee-of ending.Name us zs u h = u.1
+  callee-of ending.Target us zs u h = absurd (cc)
+  callee-of ending.Callee us zs u h = u
+  callee-of ending.Constant us zs u h = absurd (cc)
+  callee-of ending.Other us zs u h = absurd (cc)
+
+  assign-one : Stands (One shape.Assign)
+  unfolding shape_of
+  assign-one = one-stands kind.Assign shape.Assign refl (λ zs. refl)
+
+  assigns : (constants : Bool) (us zs : List Token) → Seq (ATarget constants free) (Seq (One shape.Assign) (AValue false free)) us zs → AValue constants free us zs
+  assigns constants us zs h = (_, Assigns _ _ _ _ _ _ _ _ (subst (λ v. ATarget constants free us v) h.second.first.2 h.first).1 h.second.first.1 h.second.second.1)
+
+  assigned-goes : (constants : Bool) (all : List Token) (first : Tree) (xs : List Token) → Reach all xs (ATarget constants free) → Reads' all (assigned nested turns free first xs) (AValue constants free)
+  unfolding assigned
+  assigned-goes constants all first xs r = goes-as (seq (expecting shape.Assign assign-one xs) (value-stands false free) (λ _ es. answering _ (ih.value free es)))
+      (λ t ys m. reach-as (reach-more r m) (assigns constants)) (λ rest q. complete-as (complete-behind r q) (assigns constants))
+
+  computes : (constants : Bool) (operator : Binary) (o : Token) → IsRow ASSIGNMENTS (shape_of o.kind) operator → (us zs : List Token) → Seq (Seq (ATarget false free) (This o)) (AValue false free) us zs → AValue constants free us zs
+  computes constants operator o row us zs h = (_, Computes _ _ _ _ _ _ _ _ _ (subst (λ v. ATarget false free us v) h.first.second h.first.first).1 row h.second.1)
+
+  computed-goes : (constants : Bool) (all : List Token) (first : Tree) (operator : Binary) (o : Token) (os : List Token) → IsRow ASSIGNMENTS (shape_of o.kind) operator → Reach all (o ∷ os) (ATarget false free) → Reads' all (operator_assigned nested turns free operator first (o ∷ os)) (AValue constants free)
+  unfolding operator_assigned
+  computed-goes constants all first operator o os row r = let ro = reach-more r (reach-this o os) in
+      goes-as (answering _ (ih.value free os)) (λ t ys m. reach-as (reach-more ro m) (computes constants operator o row)) (λ rest q. complete-as (complete-behind ro q) (computes constants operator o row))
+
+  -- a command without a block
+  commands : (constants : Bool) (xs us zs : List Token) → ¬ StartsWith NO_COMMAND xs → Seq (ACallee free) (λ us zs. SomeBare nested ih turns free false us zs × Fits xs us) us zs → AValue constants free us zs
+  commands constants xs us zs none h = (_, Command _ _ _ _ _ _ _ _ _ h.first.1 (fits-command xs h.mid none h.second.1) h.second.0.1 h.second.0.2 (NoDo _ _) (inl refl))
+
+  -- with what stands behind it
+  blocks : (constants : Bool) (xs : List Token) (given : List (Argument Tree)) (us zs : List Token) → ¬ StartsWith NO_COMMAND xs → Seq (Seq (ACallee free) (λ us zs. Bare nested ih turns free false given us zs × Fits xs us)) (Commanded nested ih turns free given) us zs → AValue constants free us zs
+  blocks constants xs given us zs none h =
+      let c = h.first.first in
+      let a = h.first.second in
+      (_, Command _ _ _ _ _ _ _ _ _ c.1 (fits-command xs h.first.mid none a.1) a.0.1 a.0.2 h.second.1 (⊎_elim (λ e. inl e) (λ e. inr (a.0.3 e)) h.second.2))
+
+  command-goes : (constants : Bool) (all : List Token) (callee : Tree) (xs : List Token) → ¬ StartsWith NO_COMMAND xs → Reach all xs (ACallee free) → Reads' all (command nested turns free callee xs) (AValue constants free)
+  unfolding command
+  command-goes constants all callee xs none r = bind (bare-goes nested ih turns free xs) (λ rest q. complete-as (complete-behind r (complete-fits q)) (λ us zs h. commands constants xs us zs none h))
+      (λ given ps m. let ra = reach-more r (reach-fits m) in
+      bind (command-block-goes nested ih turns free given.0 ps) (λ rest q. complete-as (complete-behind ra q) (λ us zs h. blocks constants xs given.0 us zs none h))
+      (λ b ys k. record { told = reach-as (reach-more ra k) (λ us zs h. blocks constants xs given.0 us zs none h) }))
+
+  rest-goes : (constants : Bool) (all : List Token) (first : Tree) (e : Ending) (xs : List Token) → Reach all xs (Post nested ih turns free e) → Reads' all (operators.tern_behind nested turns free first xs) (AValue constants free)
+  rest-goes constants all first e xs r = goes-as (behind-goes nested ih turns free all first xs (reach-as r (λ us zs h. h.0))) (λ t ys m. reach-as m (λ us zs h. (_, Term _ _ _ _ _ h.1))) (λ rest q. complete-as q (λ us zs h. (_, Term _ _ _ _ _ h.1)))
+
+  other-goes : (constants : Bool) (all : List Token) (first : Tree) (e : Ending) (xs : List Token) → Reach all xs (Post nested ih turns free e) → Reads' all (followed_by nested turns free first (other_follower e (peek xs)) xs) (AValue constants free)
+  other-goes constants all first e xs r = go (is_callee e && begin_arguments (peek xs)) refl
+    where
+      go : (b : Bool) → (is_callee e && begin_arguments (peek xs)) ≡ b → Reads' all (followed_by nested turns free first (if b then follower.Arguments else follower.Operators) xs) (AValue constants free)
+      go true k = command-goes constants all first xs (no-command xs (and-right (is_callee e) _ k)) (reach-as r (λ us zs h. callee-of e us zs h.1 (and-left _ _ k)))
+      go false k = rest-goes constants all first e xs r
+
+  operator-goes : (constants : Bool) (all : List Token) (first : Tree) (e : Ending) (o : Token) (os : List Token) → Reach all (o ∷ os) (Post nested ih turns free e) → (operator : Option Binary) → Assigning (shape_of o.kind) operator →
+      Reads' all (followed_by nested turns free first (operator_follower e (Some (shape_of o.kind)) operator) (o ∷ os)) (AValue constants free)
+  operator-goes constants all first e o os r None row = other-goes constants all first e (o ∷ os) r
+  operator-goes constants all first e o os r (Some operator) row = go (is_target e) refl
+    where
+      go : (b : Bool) → is_target e ≡ b → Reads' all (followed_by nested turns free first (if b then follower.Operator operator else follower.Operators) (o ∷ os)) (AValue constants free)
+      go true k = computed-goes constants all first operator o os row (reach-as r (λ us zs h. target-of e us zs h.1 k false))
+      go false k = rest-goes constants all first e (o ∷ os) r
+
+  assign-goes : (constants : Bool) (all : List Token) (first : Tree) (e : Ending) (xs : List Token) → Reach all xs (Post nested ih turns free e) → (b : Bool) → is_plain_target constants e ≡ b → Reads' all (followed_by nested turns free first (if b then follower.Value else follower.Operators) xs) (AValue constants free)
+  assign-goes constants all first e xs r true k = assigned-goes constants all first xs (reach-as r (λ us zs h. plain-target-of constants e us zs h.1 k))
+  assign-goes constants all first e xs r false k = rest-goes constants all first e xs r
+
+  follower-goes : (constants : Bool) (all : List Token) (first : Tree) (e : Ending) (s : Shape) (o : Token) (os : List Token) → Is s o → Reach all (o ∷ os) (Post nested ih turns free e) →
+      Reads' all (followed_by nested turns free first (operator_follower e (Some (shape_of o.kind)) (assigning_of (Some (shape_of o.kind)))) (o ∷ os)) (AValue constants free) →
+      Reads' all (followed_by nested turns free first (follower_by constants e (Some s)) (o ∷ os)) (AValue constants free)
+  follower-goes constants all first e shape.Assign o os is r k = assign-goes constants all first e (o ∷ os) r (is_plain_target constants e) refl
+  follower-goes constants all first e s o os is r k = subst (λ s. Reads' all (followed_by nested turns free first (operator_follower e (Some s) (assigning_of (Some s))) (o ∷ os)) (AValue constants free)) is k
+
+  followed-goes : (constants : Bool) (all : List Token) (first : Tree) (xs : List Token) → Reach all xs (Post nested ih turns free (ending_of first)) → Reads' all (followed nested turns free constants first xs) (AValue constants free)
+  unfolding followed follower_of
+  followed-goes constants all first [] r = other-goes constants all first (ending_of first) [] r
+  followed-goes constants all first (o ∷ os) r = follower-goes constants all first (ending_of first) (shape_of o.kind) o os refl r
+      (operator-goes constants all first (ending_of first) o os r (assigning_of (Some (shape_of o.kind))) (assigning (shape_of o.kind)))
+
+  pub value-goes : (constants : Bool) (xs : List Token) → Plain xs (spec.value nested turns free constants xs) (AValue constants free)
+  unfolding spec.value from_operand
+  value-goes constants xs = choosing (has_prefix xs)
+      (λ e. plainly (tern-goes nested ih turns free xs) (λ us zs h. (_, Term _ _ _ _ _ h.1)))
+      (λ e. bind (post-goes nested ih turns free xs) (λ rest q. complete-as q (λ us zs h. (_, Term _ _ _ _ _ (negated-term (_, Plainly _ _ _ _ h.0.1)).1))) (λ first ps r. followed-goes constants xs first ps r))
+
+  -- ---- statements
+
+  -- the value of a jump, or none
+  abbrev JumpValue : Rel
+  JumpValue = Perhaps (λ us zs. (¬ StartsWith MODIFIERS us) × AValue false free us zs)
+
+  jump-value-goes : (xs : List Token) → Plain xs (jump_value nested turns free xs) JumpValue
+  unfolding jump_value
+  jump-value-goes xs = choosing (has_value xs)
+      (λ e. goes-as (answering Some (ih.value free xs)) (λ t ys r. reach-as (reach-fits r) (λ us zs h. inr (fits-modifier xs us (no-modifier xs e) h.1, h.0)))
+      (λ rest q. complete-as (complete-fits q) (λ us zs h. inr (fits-modifier xs us (no-modifier xs e) h.1, h.0))))
+      (λ e. nothing None xs)
+
+  jumps : (constants : Bool) (word : Jump) (j : Token) → IsRow JUMP_WORDS (shape_of j.kind) word → (us zs : List Token) → JumpValue us zs → ASimple constants free (j ∷ us) zs
+  jumps constants word j row us zs (inl e) = subst (λ v. ASimple constants free (j ∷ us) v) e (_, Jumps _ _ _ _ _ row)
+  jumps constants word j row us zs (inr h) = (_, JumpsWith _ _ _ _ _ _ _ row h.0 h.1.1)
+
+  jump-goes : (constants : Bool) (word : Jump) (j : Token) (js : List Token) → IsRow JUMP_WORDS (shape_of j.kind) word → Plain (j ∷ js) (spec.jump nested turns free word (j ∷ js)) (ASimple constants free)
+  unfolding spec.jump
+  jump-goes constants word j js row = headed j (plainly (answering _ (jump-value-goes js)) (jumps constants word j row))
+
+  valued : (constants : Bool) (xs : List Token) → Plain xs (spec.value nested turns free constants xs) (ASimple constants free)
+  valued constants xs = plainly (value-goes constants xs) (λ us zs h. (_, Valued _ _ _ _ _ h.1))
+
+  simple-by' : (constants : Bool) (j : Token) (js : List Token) (word : Option Jump) → Jumping (shape_of j.kind) word → Plain (j ∷ js) (simple_by nested turns free constants word (j ∷ js)) (ASimple constants free)
+  simple-by' constants j js None row = valued constants (j ∷ js)
+  simple-by' constants j js (Some word) row = jump-goes constants word j js row
+
+  pub simple-goes : (constants : Bool) (xs : List Token) → Plain xs (simple nested turns free constants xs) (ASimple constants free)
+  unfolding simple
+  simple-goes constants [] = valued constants []
+  simple-goes constants (j ∷ js) = simple-by' constants j js (jump_of (Some (shape_of j.kind))) (jumping (shape_of j.kind))
+
+  -- ---- modifiers
+
+  -- behind any statement
+  abbrev WithModifiers : Rel
+  WithModifiers us zs = (s : Tree) → (t : Tree) × DerivesModified free s t us zs
+
+  unmodified : (zs : List Token) → WithModifiers zs zs
+  unmodified zs s = (s, Unmodified _ _ _)
+
+  modifiers-stand : Stands WithModifiers
+  modifiers-stand zs c = record { whole = zs; clear = c; derives = unmodified zs }
+
+  modifies : (word : Modifier) (m : Token) → IsRow MODIFIER_WORDS (shape_of m.kind) word → (us zs : List Token) → Seq (ASimple false free) WithModifiers us zs → WithModifiers (m ∷ us) zs
+  modifies word m row us zs h s = (_, Modified _ _ _ _ _ _ _ _ _ row h.first.1 (h.second _).1)
+
+  modifiers-by' : (n : ℕ) → ((inner : Tree) (xs : List Token) → Plain xs (modifiers_from nested turns free n inner xs) WithModifiers) → (inner : Tree) (m : Token) (ms : List Token) (word : Option Modifier) → Modifying (shape_of m.kind) word →
+      Plain (m ∷ ms) (modifiers_by nested turns free (modifiers_from nested turns free n) inner word (m ∷ ms)) WithModifiers
+  unfolding modified
+  modifiers-by' n again inner m ms None row = done inner (m ∷ ms) unmodified
+  modifiers-by' n again inner m ms (Some word) row = headed m (plainly (seq (answering _ (ih.simple free ms)) modifiers-stand (λ longer ps. again longer ps)) (modifies word m row))
+
+  modifiers-go : (n : ℕ) (inner : Tree) (xs : List Token) → Plain xs (modifiers_from nested turns free n inner xs) WithModifiers
+  unfolding modifiers_from
+  modifiers-go zero inner xs = refusing xs modifiers-stand
+  modifiers-go (suc n) inner [] = done inner [] unmodified
+  modifiers-go (suc n) inner (m ∷ ms) = modifiers-by' n (modifiers-go n) inner m ms (modifier_of (Some (shape_of m.kind))) (modifying (shape_of m.kind))
+
+  pub statement-goes : (at : Site) (xs : List Token) → Plain xs (statement nested turns free (is_open at) xs) (AStatement at free)
+  unfolding statement modifiers
+  statement-goes at xs = plainly (seq (simple-goes (is_open at) xs) modifiers-stand (λ s ps. modifiers-go turns s ps)) (λ us zs h. (_, Simply _ _ _ _ _ _ _ h.first.1 (h.second h.first.0).1))
+
+  -- ---- bodies
+
+  body-by : (at : Site) (start end n : ℕ) (found : List Tree) (xs : List Token) → Plain xs (body_from nested turns free (is_open at) start end n found xs) (Row at free)
+  unfolding body_from
+  body-by at start end zero found xs = refusing xs perhaps-stands
+  body-by at start end (suc n) found xs = choosing (begins_statement xs)
+      (λ e. plainly (seq (statement-goes at xs) perhaps-stands (λ s qs. further-goes at free (body_from nested turns free (is_open at) start (span_of s).end n (found ++ s ∷ [])) _ (body-by at start (span_of s).end n (found ++ s ∷ [])) qs)) (row-more at free))
+      (λ e. nothing _ xs)
+
+  pub body-goes : (at : Site) (xs : List Token) → Plain xs (spec.body nested turns free (is_open at) xs) (ABody at free)
+  unfolding spec.body statements
+  body-goes at xs = plainly (parted (body-by at (body_start (skip_separators xs)) 0 turns [] (skip_separators xs))) (body-of at free)

@@ -1,0 +1,11 @@
+use Rattle.rb_completion_laws.proofs.Examples.{sign-refused, name-refused, end-refused}
+use Rattle.rb_completion_laws.proofs.examples_begin.Goals as goal
+
+pub returns-clause-sign : goal.returns-clause-sign
+returns-clause-sign c = sign-refused
+
+pub returns-clause-name : goal.returns-clause-name
+returns-clause-name c = name-refused
+
+pub returns-clause-end : goal.returns-clause-end
+returns-clause-end c = end-refused
