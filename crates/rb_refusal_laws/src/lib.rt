@@ -1,0 +1,46 @@
+//! Laws on the parser's refusals: the refused place is exactly the one that the grammar tells.
+//!
+//! `BadAt` of `rb_grammar` is the place of a token with which no program goes on, though the tokens before it begin one. `EndsEarly`
+//! is said of tokens that begin a program and are none.
+#![tactic(auto)]
+
+ghost use Rattle.rb_refusal_laws.specs.Examples.{BracketIsBad, NameIsAwaited};
+ghost use Rattle.rb_refusal_laws.specs.Laws.{BadPlacesAreExact, BadTokensAreRefused, DeepPlacesAreExact, DeepTokensAreRefused, EarlyEndsAreRefused, NoEndIsBad, NoneBadBeforeDeep, OneFront, OnePlace, SomeAreRefusedBefore};
+
+/// Where tokens are refused for what they are, it is at the bad token, or at their end if they end too early.
+pub fn bad_places_are_exact()
+    ensures { BadPlacesAreExact }
+{}
+
+/// There is one such token at most, and none where tokens end too early.
+pub fn one_place()
+    ensures place { OnePlace }
+    ensures front { OneFront }
+    ensures ends { NoEndIsBad }
+{}
+
+/// Where tokens are refused for their depth, those up to and with the deep one begin a program: so the bad token, if there is one,
+/// stands behind it.
+pub fn deep_places_are_exact()
+    ensures deep { DeepPlacesAreExact }
+    ensures none { NoneBadBeforeDeep }
+{}
+
+/// Tokens that nest too deep nowhere are refused at the bad one, or at their end if they end too early. The bad one is refused also
+/// where tokens behind it nest too deep.
+pub fn bad_tokens_are_refused()
+    ensures tokens { BadTokensAreRefused }
+    ensures ends { EarlyEndsAreRefused }
+    ensures before { SomeAreRefusedBefore }
+{}
+
+/// Tokens are refused for their depth where those up to and with the first deep one begin a program.
+pub fn deep_tokens_are_refused()
+    ensures { DeepTokensAreRefused }
+{}
+
+/// A token that is bad, and tokens that end too early.
+pub fn examples_are_refused()
+    ensures bracket { BracketIsBad }
+    ensures name { NameIsAwaited }
+{}
