@@ -24,8 +24,16 @@ pub fn fresh_list<L: Ledger>(
     ensures list { IfOk result (λ list. list ≡ fresh_of (option_copied bytes.entry)) }
     ensures counted { OnOk result (steps.new ≡ steps.old + 1) }
 {
-    let file = load(alloc, bytes.unwrap_or(&[]))?;
-    Ok(Items::from_vec(check_file(alloc, &World {}, &file, steps)?))
+    match bytes {
+        Some(bytes) => {
+            let file = load(alloc, bytes)?;
+            Ok(Items::from_vec(check_file(alloc, &World {}, &file, steps)?))
+        }
+        None => {
+            steps.count();
+            Ok(Items::new(alloc))
+        }
+    }
 }
 
 fn is_same_list(one: &[Diag], other: &[Diag]) -> bool

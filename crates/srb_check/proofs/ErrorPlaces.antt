@@ -1,42 +1,130 @@
 -- Where the errors of a file stand.
-use Rattle.std.proofs.Common.{ℕ, Bool, true, false, if◌then◌else◌, List, [], ◌∷◌, ◌++◌, length, refl, Option, Some, None, IfSome, nat_lt, codes, inl, inr}
+use Rattle.std.proofs.Common.{◌≡◌, ℕ, ◌≤◌, Bool, true, false, if◌then◌else◌, List, [], ◌∷◌, ◌++◌, length, refl, Option, Some, None, IfSome, nat_lt, codes, inl, inr, Result, Ok, Err, arith}
+use Rattle.std.specs.Str.{IsUtf8, chars, encode_utf8_all, is_utf8}
+use Rattle.std.proofs.lemmas.Str.{IsUtf8-from_is_utf8}
 use Rattle.srb_terms.specs.declared.diag.Diag.{Diag}
+use Rattle.srb_terms.specs.declared.span.Span.{Span}
 use Rattle.srb_terms.specs.declared.level.Level.{Level}
-use Rattle.rb_tree.specs.declared.Expression.{Expression}
-use Rattle.rb_tree.specs.declared.Expression.TheVariants.{Plain, Let, Reveal}
-use Rattle.rb_tree.specs.declared.Statement.{Statement}
-use Rattle.srb_check.specs.Thin.{statements_of}
-use Rattle.srb_check.specs.Levels.{level_of}
-use Rattle.srb_check.specs.Checks.{LARGEST_FILE, class_name, too_large, is_same_class, expression_errors, statement_errors, shows_types, thin_errors, errors_of}
-use Rattle.srb_check.specs.Placed.{AreAtPlaces}
-use Rattle.srb_check.proofs.ThinPlaces.{Ascii, ExpressionWithin, StatementsWithin, statements_of-fine, place-ascii}
+use Rattle.rb_tree.specs.declared.token.Token.{Token}
+use Rattle.rb_tree.specs.declared.syntax.Tree.{Tree}
+use Rattle.rb_lex.specs.Levels.{level_of_text}
+use Rattle.rb_lex.specs.Lexed.{lexed_text}
+use Rattle.rb_lex.specs.declared.LexEnd.{LexEnd}
+use Rattle.rb_lex.specs.declared.LexEnd.TheVariants as lex
+use Rattle.rb_lex_laws.specs.Tokens.{StandInOrder}
+use Rattle.rb_lex_laws.proofs.Standing.{tokens-stand, places-start}
+use Rattle.rb_expr.specs.declared.ParseEnd.{ParseEnd}
+use Rattle.rb_expr.specs.declared.ParseEnd.TheVariants as parse
+use Rattle.rb_decl.specs.Programs.{parsed}
+use Rattle.rb_grammar.specs.Places.{Each, IsPlaced, StandsAt}
+use Rattle.rb_grammar.proofs.Programs.{programs-derive}
+use Rattle.rb_grammar.proofs.Nodes.{trees-stand-by-nodes}
+use Rattle.rb_grammar.proofs.Standing.{trees-stand-at-tokens}
+use Rattle.srb_check.specs.declared.built.Expression.{Expression}
+use Rattle.srb_check.specs.declared.built.Expression.TheVariants.{Plain, Let, Reveal}
+use Rattle.srb_check.specs.declared.reading.Reading.{Reading}
+use Rattle.srb_check.specs.declared.reading.Reading.TheVariants.{Program, Refused}
+use Rattle.srb_check.specs.Built.{built}
+use Rattle.srb_check.specs.Checks.{LARGEST_FILE, hides_all, shows_types, reading_errors, text_errors, errors_of}
+use Rattle.srb_check.specs.Messages.{class_name, too_large, not_utf8, is_same_class, expression_errors, expressions_errors, judged}
+use Rattle.srb_check.specs.Placed.{IsPlace, AreAtPlaces}
+use Rattle.srb_check.specs.Readings.{lex_error, parse_error, parsed_reading, lexed_reading, read}
+use Rattle.srb_check.proofs.BuiltPlaces.{IsExpressionAt, built-placed}
+use Rattle.srb_check.proofs.CharacterPlaces.{text-start, character-end}
+use Rattle.srb_check.proofs.TokenPlaces.{InText, placed-in_text, token_place-in_text}
 
-expression_errors-places : (bytes : List ℕ) (e : Expression) → Ascii bytes → ExpressionWithin (length bytes) e → (later : List Diag) → AreAtPlaces bytes later → AreAtPlaces bytes (expression_errors e ++ later)
-expression_errors-places bytes (Plain literal) ascii within later h = h
-expression_errors-places bytes (Let literal asserted) ascii within later h = by_class (is_same_class literal.class asserted)
+-- ---- what a text is read to
+
+-- the error stands in the text, or each that the tree may have
+abbrev AreExpressionsIn : List ℕ → List Expression → Type 0
+AreExpressionsIn text expressions = Each (IsExpressionAt (InText text)) expressions
+
+abbrev IsReadingIn : List ℕ → Reading → Type 0
+IsReadingIn text (Refused error) = InText text error.span
+IsReadingIn text (Program tree) = IfSome (built tree) (AreExpressionsIn text)
+
+expression-in : (text : List ℕ) (tokens : List Token) → StandInOrder text 0 tokens → (e : Expression) → IsExpressionAt (IsPlaced tokens) e → IsExpressionAt (InText text) e
+expression-in text tokens stand Plain h = tt
+expression-in text tokens stand (Let literal asserted) h = placed-in_text text tokens stand literal.span h
+expression-in text tokens stand (Reveal literal span) h = placed-in_text text tokens stand span h
+
+expressions-in : (text : List ℕ) (tokens : List Token) → StandInOrder text 0 tokens → (es : List Expression) → Each (IsExpressionAt (IsPlaced tokens)) es → AreExpressionsIn text es
+expressions-in text tokens stand [] h = tt
+expressions-in text tokens stand (e ∷ es) h = (expression-in text tokens stand e h.0, expressions-in text tokens stand es h.1)
+
+built-in : (text : List ℕ) (tokens : List Token) → StandInOrder text 0 tokens → (es : Option (List Expression)) → IfSome es (Each (IsExpressionAt (IsPlaced tokens))) → IfSome es (AreExpressionsIn text)
+built-in text tokens stand None h = tt
+built-in text tokens stand (Some es) h = expressions-in text tokens stand es h
+
+parse_error-in : (text : List ℕ) (tokens : List Token) → StandInOrder text 0 tokens → (end : ParseEnd) → InText text (parse_error tokens (length (encode_utf8_all text)) end).span
+parse_error-in text tokens stand (parse.Bad at) = token_place-in_text text 0 tokens at stand
+parse_error-in text tokens stand (parse.TooDeep at) = token_place-in_text text 0 tokens at stand
+parse_error-in text tokens stand parse.NoMemory = token_place-in_text text 0 tokens 0 stand
+
+parsed-in : (text : List ℕ) (tokens : List Token) → StandInOrder text 0 tokens → (r : Result Tree ParseEnd) → parsed tokens ≡ r → IsReadingIn text (parsed_reading tokens (length (encode_utf8_all text)) r)
+parsed-in text tokens stand (Ok t) e =
+    built-in text tokens stand (built t)
+    (built-placed tokens (StandsAt tokens) (λ u h. (trees-stand-by-nodes tokens u).0 h) t (trees-stand-at-tokens tokens t (programs-derive tokens t e)))
+parsed-in text tokens stand (Err end) e = parse_error-in text tokens stand end
+
+lex_error-in : (text : List ℕ) (end : LexEnd) → lexed_text text ≡ Err end → InText text (lex_error (encode_utf8_all text) end).span
+lex_error-in text (lex.Bad at) e = let start = places-start text at (inr e) in (start, character-end text at start, omega arith)
+lex_error-in text (lex.Outside at) e = let start = places-start text at (inl e) in (start, character-end text at start, omega arith)
+lex_error-in text lex.NoMemory e = (text-start text, character-end text 0 (text-start text), omega arith)
+
+lexed-in : (text : List ℕ) (r : Result (List Token) LexEnd) → lexed_text text ≡ r → IsReadingIn text (lexed_reading (encode_utf8_all text) r)
+lexed-in text (Ok tokens) e = parsed-in text tokens (tokens-stand text tokens e) (parsed tokens) refl
+lexed-in text (Err end) e = lex_error-in text end e
+
+read-in : (text : List ℕ) → IsReadingIn text (read text)
+unfolding read
+read-in text = lexed-in text (lexed_text text) refl
+
+-- ---- the errors of a file
+
+place-in : (bytes : List ℕ) → IsUtf8 bytes → (span : Span) → InText (chars bytes) span → IsPlace bytes span.start × IsPlace bytes span.end × (span.start ≤ span.end)
+place-in bytes utf8 span h = (inr (utf8, h.0), inr (utf8, h.1), h.2)
+
+expression_errors-places : (bytes : List ℕ) → IsUtf8 bytes → (e : Expression) → IsExpressionAt (InText (chars bytes)) e → (later : List Diag) → AreAtPlaces bytes later → AreAtPlaces bytes (expression_errors e ++ later)
+expression_errors-places bytes utf8 Plain within later h = h
+expression_errors-places bytes utf8 (Let literal asserted) within later h = by_class (is_same_class literal.class asserted)
   where
     by_class : (same : Bool) → AreAtPlaces bytes ((if same then [] else record { span = literal.span; number = 7007; text = codes "expected " ++ class_name asserted ++ codes ", found " ++ class_name literal.class } ∷ []) ++ later)
     by_class true = h
-    by_class false = (inr (place-ascii bytes literal.span.start ascii within.0), inr (place-ascii bytes literal.span.end ascii within.1), h)
-expression_errors-places bytes (Reveal literal span) ascii within later h =
-    (inr (place-ascii bytes span.start ascii within.0), inr (place-ascii bytes span.end ascii within.1), h)
+    by_class false = let both = place-in bytes utf8 literal.span within in (both.0, both.1, both.2, h)
+expression_errors-places bytes utf8 (Reveal literal span) within later h = let both = place-in bytes utf8 span within in (both.0, both.1, both.2, h)
 
-statement_errors-places : (bytes : List ℕ) (statements : List Statement) → Ascii bytes → StatementsWithin (length bytes) statements → AreAtPlaces bytes (statement_errors statements)
-statement_errors-places bytes [] ascii within = tt
-statement_errors-places bytes (statement ∷ statements) ascii within =
-    expression_errors-places bytes statement.value ascii within.0 (statement_errors statements) (statement_errors-places bytes statements ascii within.1)
+expressions_errors-places : (bytes : List ℕ) → IsUtf8 bytes → (es : List Expression) → AreExpressionsIn (chars bytes) es → AreAtPlaces bytes (expressions_errors es)
+expressions_errors-places bytes utf8 [] within = tt
+expressions_errors-places bytes utf8 (e ∷ es) within =
+    expression_errors-places bytes utf8 e within.0 (expressions_errors es) (expressions_errors-places bytes utf8 es within.1)
 
-thin_errors-places : (bytes : List ℕ) (level : Level) (found : Option (List Statement)) → IfSome found (λ statements. Ascii bytes × StatementsWithin (length bytes) statements) → AreAtPlaces bytes (thin_errors level found)
-thin_errors-places bytes level None h = (inl refl, inl refl, tt)
-thin_errors-places bytes level (Some statements) h = by_level (shows_types level)
+judged-places : (bytes : List ℕ) → IsUtf8 bytes → (o : Option (List Expression)) → IfSome o (AreExpressionsIn (chars bytes)) → AreAtPlaces bytes (judged o)
+judged-places bytes utf8 None h = (inl refl, inl refl, omega arith, tt)
+judged-places bytes utf8 (Some es) h = expressions_errors-places bytes utf8 es h
+
+reading_errors-places : (bytes : List ℕ) → IsUtf8 bytes → (level : Level) (reading : Reading) → IsReadingIn (chars bytes) reading → AreAtPlaces bytes (reading_errors level reading)
+reading_errors-places bytes utf8 level (Refused error) h = let both = place-in bytes utf8 error.span h in (both.0, both.1, both.2, tt)
+reading_errors-places bytes utf8 level (Program tree) h = by_level (shows_types level)
   where
-    by_level : (shown : Bool) → AreAtPlaces bytes (if shown then statement_errors statements else [])
-    by_level true = statement_errors-places bytes statements h.0 h.1
+    by_level : (shown : Bool) → AreAtPlaces bytes (if shown then judged (built tree) else [])
+    by_level true = judged-places bytes utf8 (built tree) h
     by_level false = tt
+
+text_errors-places : (bytes : List ℕ) → IsUtf8 bytes → AreAtPlaces bytes (text_errors (chars bytes))
+text_errors-places bytes utf8 = by_level (hides_all (level_of_text (chars bytes)))
+  where
+    by_level : (hidden : Bool) → AreAtPlaces bytes (if hidden then [] else reading_errors (level_of_text (chars bytes)) (read (chars bytes)))
+    by_level true = tt
+    by_level false = reading_errors-places bytes utf8 (level_of_text (chars bytes)) (read (chars bytes)) (read-in (chars bytes))
 
 pub errors_of-places : (bytes : List ℕ) → AreAtPlaces bytes (errors_of bytes)
 errors_of-places bytes = by_size (nat_lt LARGEST_FILE (length bytes))
   where
-    by_size : (large : Bool) → AreAtPlaces bytes (if large then too_large ∷ [] else thin_errors (level_of bytes) (statements_of bytes))
-    by_size true = (inl refl, inl refl, tt)
-    by_size false = thin_errors-places bytes (level_of bytes) (statements_of bytes) (statements_of-fine bytes)
+    by_form : (form : Bool) → is_utf8 bytes ≡ form → AreAtPlaces bytes (if form then text_errors (chars bytes) else not_utf8 ∷ [])
+    by_form true e = text_errors-places bytes (IsUtf8-from_is_utf8 bytes e)
+    by_form false e = (inl refl, inl refl, omega arith, tt)
+
+    by_size : (large : Bool) → AreAtPlaces bytes (if large then too_large ∷ [] else (if is_utf8 bytes then text_errors (chars bytes) else not_utf8 ∷ []))
+    by_size true = (inl refl, inl refl, omega arith, tt)
+    by_size false = by_form (is_utf8 bytes) refl

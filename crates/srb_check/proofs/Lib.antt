@@ -1,6 +1,8 @@
-pub mod ThinLines
-pub mod LevelLines
 pub mod Places
-pub mod ThinPlaces
+pub mod Judging
+pub mod Loads
+pub mod CharacterPlaces
+pub mod TokenPlaces
+pub mod BuiltPlaces
 pub mod ErrorPlaces
 pub mod PlacePositions

@@ -1,5 +1,5 @@
 -- The place of an offset is its position, where each character counts one.
-use Rattle.std.proofs.Common.{◌≡◌, ℕ, zero, suc, ◌+◌, ◌-◌, ◌<◌, ◌≤◌, ◌⊎◌, ◌&&◌, ◌||◌, ◌==◌, Bool, true, false, not, nat_lt, nat_le, if◌then◌else◌, List, [], ◌∷◌, ◌++◌, map, length, take, drop, slice_index, refl, sym, subst, ap, ap₂, ◌∙◌, inl, inr, ⊎_elim, arith, add-one, add-zero}
+use Rattle.std.proofs.Common.{◌≡◌, ℕ, zero, suc, ◌+◌, ◌-◌, ◌<◌, ◌≤◌, ◌⊎◌, ◌&&◌, ◌||◌, ◌==◌, Bool, true, false, not, nat_lt, nat_le, if◌then◌else◌, List, [], ◌∷◌, map, refl, sym, subst, ap, ap₂, ◌∙◌, inl, ⊎_elim, arith, add-zero}
 use Rattle.std.specs.Str.{IsUtf8, chars}
 use Rattle.std.proofs.lemmas.Bool.{lt-ltb, le-ltb, cases_lt}
 use Rattle.std.proofs.lemmas.Bool.Decides.{nat_tests}
@@ -7,9 +7,9 @@ use Rattle.std.proofs.lemmas.List.{take_all}
 use Rattle.std.proofs.lemmas.List.Sums.{sum_by-append, sum_by-cons}
 use Rattle.std.specs.List.{sum_by, AllByRecursion}
 use Rattle.std.specs.Char.{len_utf8}
-use borrow.Author.Tests.{eqb-true, leb-true}
+use borrow.Author.Tests.{leb-true}
 use lib.Utf8.{encode, encodes}
-use Rattle.srb_text.specs.Lines.{Line, lines, IsFirstLine, AreLines, ends_line, with_content, with_ending, begins_with_line_feed, LINE_FEED, CARRIAGE_RETURN}
+use Rattle.srb_text.specs.Lines.{Line, lines, AreLines, ends_line, with_content, with_ending, begins_with_line_feed, LINE_FEED, CARRIAGE_RETURN}
 use Rattle.srb_text.specs.Positions.{len_utf16, fitting, line_size, byte_len, position_in, position_of, IsStart, one}
 use Rattle.srb_text.specs.Units.{units_at}
 use Rattle.srb_text.specs.declared.Pos.{Pos}
@@ -19,7 +19,8 @@ use Rattle.srb_text.proofs.PlaceLemmas.{sum_by-one, fitting-one}
 use Rattle.srb_text.proofs.LineLemmas.{AreLines-lines}
 use Rattle.srb_text.proofs.TransferLemmas.{take-encodes, start_in_rest, start_in_line, view_spells}
 use Rattle.srb_check.specs.declared.place.Place.{Place}
-use Rattle.srb_check.specs.Reports.{continues, moved, place_behind, place_of, position_at, start}
+use Rattle.srb_check.specs.Characters.{continues}
+use Rattle.srb_check.specs.Reports.{moved, place_behind, place_of, position_at, start}
 
 -- ---- characters, by the bytes that begin them
 

@@ -1,19 +1,16 @@
 -- Reports: one line for each error, `PATH:LINE:COLUMN: NUMBER TEXT`.
-use Rattle.std.specs.Prelude.{ℕ, zero, suc, ◌+◌, Bool, ◌&&◌, ◌||◌, ◌==◌, nat_le, if◌then◌else◌, List, [], ◌∷◌, ◌++◌, codes, decimal}
+use Rattle.std.specs.Prelude.{ℕ, zero, suc, ◌+◌, ◌||◌, ◌==◌, if◌then◌else◌, List, [], ◌∷◌, ◌++◌, codes, decimal}
 use Rattle.srb_terms.specs.declared.diag.Diag.{Diag}
 use Rattle.srb_terms.specs.Projects.{File}
 use Rattle.srb_text.specs.Lines.{ends_line, CARRIAGE_RETURN}
 use Rattle.srb_text.specs.declared.Pos.{Pos}
 use Rattle.srb_check.specs.declared.place.Place.{Place}
+use Rattle.srb_check.specs.Characters.{continues}
 use Rattle.srb_check.specs.Checks.{errors_of}
 
 -- the first place of a file
 abbrev pub start : Place
 start = record { line = 0; column = 0 }
-
--- whether a byte of UTF-8 continues a character
-abbrev pub continues : ℕ → Bool
-continues byte = nat_le 128 byte && nat_le byte 191
 
 -- the place behind one byte more, before `rest`: the next line's start behind a line's end, which is between the two
 -- bytes of `\r\n` where it was before them, and else one column further where the byte begins a character

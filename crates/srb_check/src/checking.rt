@@ -1,15 +1,62 @@
-ghost use Rattle.std.specs.Prelude.{◌≡◌, ◌+◌, ℕ, List, IfOk};
+ghost use Rattle.std.specs.Prelude.{◌≡◌, ◌+◌, ℕ, List, [], ◌∷◌, IfOk};
+ghost use Rattle.srb_check.specs.Built.{built, built_statements};
+ghost use Rattle.srb_check.specs.Checks.{errors_of, shows_types};
+ghost use Rattle.srb_check.specs.Messages.{judged};
 ghost use Rattle.srb_check.specs.Records.{loaded, tree_errors, record_errors};
-ghost use Rattle.srb_check.specs.Checks.{errors_of};
 
-use crate::errors::{shows_types, statement_errors};
+use crate::built::statement_of;
+use crate::errors::{not_built, push_error};
 use crate::file::FileRec;
-use rb_tree::Tree;
-use srb_terms::{Diag, Level, Steps, World};
+use rb_tree::syntax::Tree;
+use srb_terms::{Boxed, Diag, Level, Steps, World};
 use std::alloc::{AllocError, Global};
 use std::sync::ledger::Ledger;
 
-/// The errors of a tree's statements, where the level shows them.
+/// Whether a level shows the errors of types.
+fn shows_types(level: Level) -> bool
+    ensures { result ≡ shows_types level }
+{
+    match level {
+        Level::Ignore | Level::False => false,
+        Level::True | Level::Strict | Level::Strong => true,
+    }
+}
+
+/// The errors of a list that has one error.
+fn one_error(alloc: Global, error: Diag) -> Result<Vec<Diag>, AllocError>
+    ensures { IfOk result (λ ds. ds.items ≡ error ∷ []) }
+{
+    let mut errors = Vec::new(alloc);
+    errors.push(error)?;
+    Ok(errors)
+}
+
+/// The errors of statements, in order, or the one error of statements that aren't built.
+fn statements_errors(alloc: Global, statements: &[Boxed<Tree>]) -> Result<Vec<Diag>, AllocError>
+    ensures { IfOk result (λ ds. ds.items ≡ judged (built_statements statements.now)) }
+{
+    let mut errors = Vec::new(alloc);
+    for statement in statements {
+        match statement_of(statement.get()) {
+            Some(expression) => push_error(alloc, &mut errors, expression)?,
+            None => return one_error(alloc, not_built(alloc)?),
+        }
+    }
+    Ok(errors)
+}
+
+/// The errors of a program.
+#[tactic(auto, unfolding(crate::specs::Built::built))]
+fn program_errors(alloc: Global, tree: &Tree) -> Result<Vec<Diag>, AllocError>
+    ensures { IfOk result (λ ds. ds.items ≡ judged (built tree.now)) }
+{
+    match tree {
+        Tree::Body { statements, .. } => statements_errors(alloc, statements.as_slice()),
+        _ => one_error(alloc, not_built(alloc)?),
+    }
+}
+
+/// The errors of a tree, where there is one and the level shows them.
 fn tree_errors(alloc: Global, level: Level, tree: &Option<Tree>) -> Result<Vec<Diag>, AllocError>
     ensures { IfOk result (λ ds. ds.items ≡ tree_errors level tree.now) }
 {
@@ -17,7 +64,7 @@ fn tree_errors(alloc: Global, level: Level, tree: &Option<Tree>) -> Result<Vec<D
         None => Ok(Vec::new(alloc)),
         Some(tree) => {
             if shows_types(level) {
-                statement_errors(alloc, tree.statements.as_slice())
+                program_errors(alloc, tree)
             } else {
                 Ok(Vec::new(alloc))
             }
@@ -30,11 +77,7 @@ fn record_errors(alloc: Global, file: &FileRec) -> Result<Vec<Diag>, AllocError>
     ensures { IfOk result (λ ds. ds.items ≡ record_errors file.now) }
 {
     match &file.error {
-        Some(error) => {
-            let mut errors = Vec::new(alloc);
-            errors.push(error.copied(alloc)?)?;
-            Ok(errors)
-        }
+        Some(error) => one_error(alloc, error.copied(alloc)?),
         None => tree_errors(alloc, file.level, &file.tree),
     }
 }

@@ -1,12 +1,72 @@
-ghost use Rattle.std.specs.Prelude.{◌≡◌, ◌++◌, codes, IfOk, OnOk, OnErr, option_to_list};
-ghost use Rattle.srb_check.specs.Checks.{class_name, error_at_start, too_large, not_built, is_same_class, expression_errors, statement_errors, shows_types};
+//! The errors that a file can have.
 
-use rb_tree::{Class, Expression, Statement};
-use srb_terms::{Diag, Level, Span, Words};
+ghost use Rattle.std.specs.Prelude.{◌≡◌, ◌++◌, codes, IfOk, OnOk, option_to_list};
+ghost use Rattle.srb_check.specs.Messages as spec;
+ghost use Rattle.srb_check.specs.Messages.{class_name};
+
+use crate::built::{Class, Expression};
+use srb_terms::{Diag, Span, Words};
 use std::alloc::{AllocError, Global};
 
-/// The most bytes of a file that is checked.
-pub const LARGEST_FILE: usize = 1_048_576;
+/// An error at a place.
+fn error_at(alloc: Global, span: Span, number: u16, text: &str) -> Result<Diag, AllocError>
+    ensures { IfOk result (λ d. d ≡ record { span = span; number = number; text = text.now }) }
+{
+    Ok(Diag {
+        span,
+        number,
+        text: Words::from_str(alloc, text)?,
+    })
+}
+
+/// An error whose place is empty, at the start of its file.
+fn error_at_start(alloc: Global, number: u16, text: &str) -> Result<Diag, AllocError>
+    ensures { IfOk result (λ d. d ≡ spec.error_at_start number text.now) }
+{
+    error_at(alloc, Span { start: 0, end: 0 }, number, text)
+}
+
+/// The error of a file that is larger than the limit.
+pub fn too_large(alloc: Global) -> Result<Diag, AllocError>
+    ensures { IfOk result (λ d. d ≡ spec.too_large) }
+{
+    error_at_start(alloc, 9002, "file is larger than 1048576 bytes")
+}
+
+/// The error of a file whose bytes are no text.
+pub fn not_utf8(alloc: Global) -> Result<Diag, AllocError>
+    ensures { IfOk result (λ d. d ≡ spec.not_utf8) }
+{
+    error_at_start(alloc, 9009, "not UTF-8")
+}
+
+/// The error of a file that holds a form that isn't judged yet.
+pub fn not_built(alloc: Global) -> Result<Diag, AllocError>
+    ensures { IfOk result (λ d. d ≡ spec.not_built) }
+{
+    error_at_start(alloc, 9000, "not built yet")
+}
+
+/// The error where the text is no Ruby.
+pub fn syntax_error(alloc: Global, span: Span) -> Result<Diag, AllocError>
+    ensures { IfOk result (λ d. d ≡ spec.syntax_error span) }
+{
+    error_at(alloc, span, 2001, "syntax error")
+}
+
+/// The error where a form of Ruby begins that is outside the profile.
+pub fn outside(alloc: Global, span: Span) -> Result<Diag, AllocError>
+    ensures { IfOk result (λ d. d ≡ spec.outside span) }
+{
+    error_at(alloc, span, 9001, "outside the profile")
+}
+
+/// The error where the weight passes its limit.
+pub fn too_deep(alloc: Global, span: Span) -> Result<Diag, AllocError>
+    ensures { IfOk result (λ d. d ≡ spec.too_deep span) }
+{
+    error_at(alloc, span, 9008, "nesting is deeper than 200")
+}
 
 /// The name of a class, as errors show it.
 fn class_name(class: Class) -> &'static str
@@ -19,31 +79,6 @@ fn class_name(class: Class) -> &'static str
         Class::Integer => "Integer",
         Class::Text => "String",
     }
-}
-
-/// An error whose place is empty, at the start of its file.
-fn error_at_start(alloc: Global, number: u16, text: &str) -> Result<Diag, AllocError>
-    ensures { IfOk result (λ d. d ≡ error_at_start number text.now) }
-{
-    Ok(Diag {
-        span: Span { start: 0, end: 0 },
-        number,
-        text: Words::from_str(alloc, text)?,
-    })
-}
-
-/// The error of a file that is larger than the limit.
-pub fn too_large(alloc: Global) -> Result<Diag, AllocError>
-    ensures { IfOk result (λ d. d ≡ too_large) }
-{
-    error_at_start(alloc, 9002, "file is larger than 1048576 bytes")
-}
-
-/// The error of a file that holds a form that isn't judged yet.
-pub fn not_built(alloc: Global) -> Result<Diag, AllocError>
-    ensures { IfOk result (λ d. d ≡ not_built) }
-{
-    error_at_start(alloc, 9000, "not built yet")
 }
 
 /// The text of an asserted class that is another than the one found.
@@ -68,7 +103,7 @@ fn type_text(alloc: Global, found: Class) -> Result<Words, AllocError>
 
 /// Whether both are the same class.
 fn is_same_class(one: Class, other: Class) -> bool
-    ensures { result ≡ is_same_class one other }
+    ensures { result ≡ spec.is_same_class one other }
 {
     match (one, other) {
         (Class::Nil, Class::Nil) => true,
@@ -82,10 +117,10 @@ fn is_same_class(one: Class, other: Class) -> bool
 
 /// The error of an expression, if it has one.
 fn expression_error(alloc: Global, expression: Expression) -> Result<Option<Diag>, AllocError>
-    ensures { IfOk result (λ d. option_to_list d ≡ expression_errors expression) }
+    ensures { IfOk result (λ d. option_to_list d ≡ spec.expression_errors expression) }
 {
     match expression {
-        Expression::Plain { literal: _ } => Ok(None),
+        Expression::Plain => Ok(None),
         Expression::Let { literal, asserted } => {
             if is_same_class(literal.class, asserted) {
                 return Ok(None);
@@ -104,34 +139,17 @@ fn expression_error(alloc: Global, expression: Expression) -> Result<Option<Diag
     }
 }
 
-/// Whether a level shows the errors of types.
-pub fn shows_types(level: Level) -> bool
-    ensures { result ≡ shows_types level }
+/// Adds the error of an expression, if it has one.
+pub fn push_error(
+    alloc: Global,
+    errors: &mut Vec<Diag>,
+    expression: Expression,
+) -> Result<(), AllocError>
+    ensures { OnOk result (errors.new.items ≡ errors.old.items ++ spec.expression_errors expression) }
 {
-    match level {
-        Level::Ignore | Level::False => false,
-        Level::True | Level::Strict | Level::Strong => true,
-    }
-}
-
-/// Adds the error of a statement, if it has one.
-fn push_error(alloc: Global, errors: &mut Vec<Diag>, statement: Statement) -> Result<(), AllocError>
-    ensures { OnOk result (errors.new.items ≡ errors.old.items ++ expression_errors statement.value) }
-{
-    match expression_error(alloc, statement.value)? {
+    match expression_error(alloc, expression)? {
         Some(error) => errors.push(error)?,
         None => {}
     }
     Ok(())
-}
-
-/// The errors of statements, in order.
-pub fn statement_errors(alloc: Global, statements: &[Statement]) -> Result<Vec<Diag>, AllocError>
-    ensures { IfOk result (λ ds. ds.items ≡ statement_errors statements.now) }
-{
-    let mut errors = Vec::new(alloc);
-    for statement in statements {
-        push_error(alloc, &mut errors, *statement)?;
-    }
-    Ok(errors)
 }

@@ -1,12 +1,15 @@
-use rb_tree::Tree;
+use rb_tree::syntax::Tree;
 use srb_terms::{Diag, Level};
+use srb_text::Text;
 
 /// What loading keeps of a file.
-#[derive(Debug, Drop)]
+#[derive(Drop)]
 pub struct FileRec {
-    /// The file's level, `false` where it is too large or not built.
+    /// The text. `None` exactly for a file that is too large or is not UTF-8.
+    pub text: Option<Text>,
+    /// The level, `false` where there is no text.
     pub level: Level,
-    /// The one error of a file that has it whatever its level.
+    /// The one error of a file that has no tree, but at `ignore`.
     pub error: Option<Diag>,
     /// The tree. `None` exactly at `ignore` and where there is such an error.
     pub tree: Option<Tree>,

@@ -7,7 +7,8 @@ ghost use Rattle.srb_check.specs.Checks.{errors_of};
 ghost use Rattle.srb_check.specs.Placed.{AreAtPlaces};
 ghost use Rattle.srb_check.specs.Reports.{place_of, position_at};
 
-/// Each error of a file starts and ends at the file's start, or else where a character of UTF-8 starts or the file ends.
+/// Each error of a file starts and ends at the file's start, or else where a character of UTF-8 starts or the file ends, and it
+/// doesn't end before it starts.
 pub fn errors_are_at_places()
     ensures { (bytes : List ℕ) → AreAtPlaces bytes (errors_of bytes) }
 {}

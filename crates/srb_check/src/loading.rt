@@ -1,60 +1,97 @@
-ghost use Rattle.std.specs.Prelude.{◌≡◌, ◌≤◌, length, IfOk, Option, Some, None};
-ghost use Rattle.srb_check.specs.Records.{loaded, refused, tree_at, record_of};
-ghost use Rattle.srb_check.specs.Checks.{LARGEST_FILE};
+ghost use Rattle.std.specs.Prelude.{◌≡◌, ◌≤◌, length, IfOk};
+ghost use Rattle.srb_check.specs.Records as spec;
+ghost use Rattle.srb_check.specs.Checks.{LARGEST_FILE, hides_all};
 
-use crate::errors::{self, not_built, too_large};
+use crate::errors::{not_utf8, too_large};
 use crate::file::FileRec;
-use crate::level::level_of;
-use crate::thin::statements_of;
-use rb_tree::{Statement, Tree};
-use srb_terms::{Diag, Items, Level};
+use crate::reading::{Reading, read};
+use rb_lex::level;
+use srb_terms::{Diag, Level};
+use srb_text::{Text, TextFault};
 use std::alloc::{AllocError, Global};
 
-/// The record of a file that has one error whatever its level.
-fn refused(error: Diag) -> FileRec
-    ensures { result ≡ refused error }
+/// The most bytes of a file that is checked.
+const LARGEST_FILE: usize = 1_048_576;
+
+/// Whether a level hides every error.
+fn hides_all(level: Level) -> bool
+    ensures { result ≡ hides_all level }
+{
+    match level {
+        Level::Ignore => true,
+        Level::False | Level::True | Level::Strict | Level::Strong => false,
+    }
+}
+
+/// The record of a file that is not read as a text.
+fn unread(error: Diag) -> FileRec
+    ensures { result ≡ spec.unread error }
 {
     FileRec {
+        text: None,
         level: Level::False,
         error: Some(error),
         tree: None,
     }
 }
 
-/// The tree that is kept at a level.
-fn tree_at(level: Level, statements: Items<Statement>) -> Option<Tree>
-    ensures { result ≡ tree_at level statements }
+/// The record of a text at this level that is read to this.
+fn read_record(text: Text, level: Level, reading: Reading) -> FileRec
+    ensures { result ≡ spec.read_record text level reading }
 {
-    match level {
-        Level::Ignore => None,
-        Level::False | Level::True | Level::Strict | Level::Strong => Some(Tree { statements }),
+    match reading {
+        Reading::Refused { error } => FileRec {
+            text: Some(text),
+            level,
+            error: Some(error),
+            tree: None,
+        },
+        Reading::Program { tree } => FileRec {
+            text: Some(text),
+            level,
+            error: None,
+            tree: Some(tree),
+        },
     }
+}
+
+/// The record of a text at this level.
+fn text_record(alloc: Global, text: Text, level: Level) -> Result<FileRec, AllocError>
+    ensures { IfOk result (λ f. f ≡ spec.text_record text level) }
+{
+    if hides_all(level) {
+        return Ok(FileRec {
+            text: Some(text),
+            level,
+            error: None,
+            tree: None,
+        });
+    }
+    let reading = read(alloc, &text)?;
+    Ok(read_record(text, level, reading))
 }
 
 /// The record of a file that isn't too large.
 fn load_small(alloc: Global, bytes: &[u8]) -> Result<FileRec, AllocError>
     requires { length bytes.now ≤ LARGEST_FILE }
-    ensures { IfOk result (λ f. f ≡ loaded bytes.now) }
+    ensures { IfOk result (λ f. f ≡ spec.loaded bytes.now) }
 {
-    match statements_of(alloc, bytes)? {
-        None => Ok(refused(not_built(alloc)?)),
-        Some(statements) => {
-            let level = level_of(bytes);
-            Ok(FileRec {
-                level,
-                error: None,
-                tree: tree_at(level, statements),
-            })
+    match Text::from_bytes(alloc, bytes) {
+        Ok(text) => {
+            let level = level(&text);
+            text_record(alloc, text, level)
         }
+        Err(TextFault::NotUtf8 { .. }) => Ok(unread(not_utf8(alloc)?)),
+        Err(TextFault::NoMemory) => Err(AllocError),
     }
 }
 
 /// Loads a file. It never refuses bytes: what is wrong with them is kept as the file's error.
 pub fn load(alloc: Global, bytes: &[u8]) -> Result<FileRec, AllocError>
-    ensures { IfOk result (λ f. f ≡ loaded bytes.now) }
+    ensures { IfOk result (λ f. f ≡ spec.loaded bytes.now) }
 {
-    if bytes.len() > errors::LARGEST_FILE {
-        Ok(refused(too_large(alloc)?))
+    if bytes.len() > LARGEST_FILE {
+        Ok(unread(too_large(alloc)?))
     } else {
         load_small(alloc, bytes)
     }

@@ -1,19 +1,14 @@
 ghost use Rattle.std.specs.Prelude.{◌≡◌, ◌+◌, ◌<◌, ◌≤◌, length, drop};
-ghost use Rattle.srb_check.specs.Reports.{continues, moved, place_behind, place_of, start};
+ghost use Rattle.srb_check.specs.Reports.{moved, place_behind, place_of, start};
 ghost use Rattle.srb_text.specs.Lines.{ends_line};
+
+use crate::characters::continues;
 
 /// A place in a file: a line, and a column in characters. Both count from 0.
 #[derive(Clone, Copy, Debug, PartialEq, Eq)]
 pub struct Place {
     pub line: usize,
     pub column: usize,
-}
-
-/// Whether a byte continues a character of UTF-8.
-fn continues(byte: u8) -> bool
-    ensures { result ≡ continues byte }
-{
-    128 <= byte && byte <= 191
 }
 
 /// Whether a line ends right behind the byte, before `rest`: never between the two bytes of one line's end.

@@ -1,7 +1,258 @@
-use crate::{fresh, push_report};
-use srb_terms::{Diag, Name, Project, Span, Words};
+use crate::{fresh, load, push_report};
+use srb_terms::{Diag, Level, Name, Project, Span, Words};
 use std::alloc::{AllocError, Global};
+use std::process::Abort;
 use std::test::Fail;
+
+/// The errors of a file.
+fn errors_in(alloc: Global, bytes: &[u8]) -> Result<Vec<Diag>, Fail> {
+    let path = Name::from_str(alloc, "f")?;
+    let project = Project::from_file(alloc, path, bytes.to_vec(alloc)?)?;
+    Ok(fresh(alloc, &project, "f")?)
+}
+
+/// The report of a file.
+fn reported(alloc: Global, bytes: &[u8]) -> Result<Vec<u8>, Fail> {
+    let errors = errors_in(alloc, bytes)?;
+    let mut report = Vec::new(alloc);
+    push_report(&mut report, "f", bytes, errors.as_slice())?;
+    Ok(report)
+}
+
+fn all_reported<R: Abort + AllocGlobal>(rt: &R, rows: &[(&str, &str)]) -> Result<(), Fail> {
+    for (source, expected) in rows {
+        let report = reported(rt.alloc(), source.as_bytes())?;
+        assert!(rt; report.as_slice() == expected.as_bytes(), "{source}");
+    }
+    Ok(())
+}
+
+#[test]
+fn texts_that_are_no_program(rt: HostRuntime) -> Result<(), Fail> {
+    all_reported(
+        &rt,
+        &[
+            ("f -1", "f:1:3: 2001 syntax error\n"),
+            ("f(-1)", ""),
+            ("f /x/", "f:1:3: 2001 syntax error\n"),
+            ("x = /a/", "f:1:5: 9001 outside the profile\n"),
+            ("class A", "f:1:8: 2001 syntax error\n"),
+            ("class A # b", "f:1:12: 2001 syntax error\n"),
+            ("class A\n# b\n# c\n", "f:4:1: 2001 syntax error\n"),
+            ("x = end", "f:1:5: 2001 syntax error\n"),
+            ("def m(a = 1, b)\nend", "f:1:15: 2001 syntax error\n"),
+            ("\"a", "f:1:3: 2001 syntax error\n"),
+            ("\"a\\", "f:1:4: 2001 syntax error\n"),
+            ("\u{feff}x", "f:1:1: 9001 outside the profile\n"),
+            ("x\0", "f:1:2: 2001 syntax error\n"),
+            (")", "f:1:1: 2001 syntax error\n"),
+            ("# typed: ignore\n)", ""),
+            ("# typed: ignore\n\"", ""),
+            ("# typed: strong\nx = ", "f:2:5: 2001 syntax error\n"),
+            ("x = 'é' + é", "f:1:11: 9001 outside the profile\n"),
+        ],
+    )
+}
+
+#[test]
+fn built_trees(rt: HostRuntime) -> Result<(), Fail> {
+    all_reported(
+        &rt,
+        &[
+            ("# typed: true\n", ""),
+            (
+                "# typed: true\nT.let(true, Integer)",
+                "f:2:7: 7007 expected Integer, found TrueClass\n",
+            ),
+            (
+                "# typed: true\nx = T.reveal_type(\"a b\")",
+                "f:2:5: 7014 type is String\n",
+            ),
+            (
+                "# typed: true\n_1a = T.let(false, NilClass)",
+                "f:2:13: 7007 expected NilClass, found FalseClass\n",
+            ),
+            (
+                "# typed: strict\nT.let('', String)\n0\nx = nil; T.reveal_type(1)",
+                "f:4:10: 7014 type is Integer\n",
+            ),
+            (
+                "# typed: strong\nT.let( nil,\n  String # a\n)",
+                "f:2:8: 7007 expected String, found NilClass\n",
+            ),
+            (
+                "# typed: true\nx = T.reveal_type nil\nT.let 1, String",
+                "f:2:5: 7014 type is NilClass\nf:3:7: 7007 expected String, found Integer\n",
+            ),
+            ("# typed: true\nT.let(123456789012345678, Integer)", ""),
+            ("# typed: false\nT.let(1, String)\nT.reveal_type(1)", ""),
+            ("T.let(1, String)\n# typed: true", ""),
+            ("class A; end", ""),
+            (
+                "# typed: true\nT.let(1, String)\nclass A; end",
+                "f:1:1: 9000 not built yet\n",
+            ),
+        ],
+    )
+}
+
+/// Statements of trees that aren't built.
+const NOT_BUILT: [&str; 33] = [
+    "f(-1)",
+    "1234567890123456789",
+    "-1",
+    "+1",
+    "1_0",
+    "0x1",
+    "1.0",
+    "\"a#{1}\"",
+    "\"a\\n\"",
+    "'é'",
+    "\"a\tb\"",
+    ":a",
+    "[1]",
+    "(1)",
+    "T",
+    "T.let",
+    "T.let(1)",
+    "T.let(1, Float)",
+    "T.let(1, ::Integer)",
+    "T.let(1, Integer, 2)",
+    "T.let(1, a: Integer)",
+    "T.let(T.let(1, Integer), Integer)",
+    "T.let(1, Integer).a",
+    "T.let(1, Integer) { }",
+    "T.reveal_type(1, 2)",
+    "T.reveal_type(x)",
+    "T.bind(1, Integer)",
+    "T&.let(1, Integer)",
+    "t.let(1, Integer)",
+    "::T.let(1, Integer)",
+    "xY = 1",
+    "@x = 1",
+    "1 if true",
+];
+
+#[test]
+fn trees_that_are_not_built(rt: HostRuntime) -> Result<(), Fail> {
+    let alloc = rt.alloc();
+    for statement in NOT_BUILT {
+        assert!(rt;
+            reported(alloc, statement.as_bytes())?.is_empty(),
+            "{statement}"
+        );
+        let source = format!(in alloc; "# typed: true\n{statement}")?;
+        let report = reported(alloc, source.as_bytes())?;
+        assert!(rt;
+            report.as_slice() == b"f:1:1: 9000 not built yet\n".as_slice(),
+            "{statement}"
+        );
+    }
+    Ok(())
+}
+
+/// A line of so many opening brackets and as many closing ones.
+fn nested(alloc: Global, depth: usize) -> Result<Vec<u8>, AllocError> {
+    let mut source = Vec::new(alloc);
+    for _ in 0..depth {
+        source.push(b'[')?;
+    }
+    for _ in 0..depth {
+        source.push(b']')?;
+    }
+    Ok(source)
+}
+
+/// A text of so many bytes behind this front.
+fn padded(alloc: Global, front: &[u8], size: usize) -> Result<Vec<u8>, AllocError> {
+    let mut source = front.to_vec(alloc)?;
+    for _ in source.len()..size {
+        source.push(b'\n')?;
+    }
+    Ok(source)
+}
+
+#[test]
+fn limits_of_a_file(rt: HostRuntime) -> Result<(), Fail> {
+    let alloc = rt.alloc();
+    let rows = [
+        (nested(alloc, 200)?, ""),
+        (
+            nested(alloc, 201)?,
+            "f:1:201: 9008 nesting is deeper than 200\n",
+        ),
+        (padded(alloc, b"", 1_048_576)?, ""),
+        (
+            padded(alloc, b"# typed: ignore\n", 1_048_577)?,
+            "f:1:1: 9002 file is larger than 1048576 bytes\n",
+        ),
+        (b"\xff".to_vec(alloc)?, "f:1:1: 9009 not UTF-8\n"),
+        (
+            b"# typed: ignore\n\xff".to_vec(alloc)?,
+            "f:1:1: 9009 not UTF-8\n",
+        ),
+    ];
+    for (source, expected) in &rows {
+        let report = reported(alloc, source.as_slice())?;
+        assert!(rt; report.as_slice() == expected.as_bytes(), "{expected}");
+    }
+    Ok(())
+}
+
+#[test]
+fn places_have_ends(rt: HostRuntime) -> Result<(), Fail> {
+    let alloc = rt.alloc();
+    for (source, start, end) in [
+        ("f -1", 2, 3),
+        ("x = end", 4, 7),
+        ("class A # b", 11, 11),
+        ("x = é", 4, 6),
+        ("# typed: true\nT.let(true, Integer)", 20, 24),
+        ("# typed: true\nx = T.reveal_type(1)", 18, 34),
+        ("# typed: true\nx = T.reveal_type 1", 18, 33),
+    ] {
+        let errors = errors_in(alloc, source.as_bytes())?;
+        assert_eq!(rt; errors.len(), 1, "{source}");
+        assert_eq!(rt; errors[0].span, Span { start, end }, "{source}");
+    }
+    Ok(())
+}
+
+#[test]
+fn records_keep_texts_and_trees(rt: HostRuntime) -> Result<(), Fail> {
+    let alloc = rt.alloc();
+    for (source, level, text, tree, error) in [
+        (
+            b"# typed: strict\nx = 1".as_slice(),
+            Level::Strict,
+            true,
+            true,
+            false,
+        ),
+        (
+            b"# typed: true\n)".as_slice(),
+            Level::True,
+            true,
+            false,
+            true,
+        ),
+        (
+            b"# typed: ignore\nx".as_slice(),
+            Level::Ignore,
+            true,
+            false,
+            false,
+        ),
+        (b"\xff".as_slice(), Level::False, false, false, true),
+    ] {
+        let file = load(alloc, source)?;
+        assert_eq!(rt; file.level, level);
+        assert_eq!(rt; file.text.is_some(), text);
+        assert_eq!(rt; file.tree.is_some(), tree);
+        assert_eq!(rt; file.error.is_some(), error);
+    }
+    Ok(())
+}
 
 #[test]
 fn fresh_errors_of_a_file_and_of_none(rt: HostRuntime) -> Result<(), Fail> {

@@ -223,14 +223,14 @@ fn a_blank_in_a_path(rt: HostRuntime) -> Result<(), Fail> {
 fn changes_of_ranges(rt: HostRuntime) -> Result<(), Fail> {
     let bodies = [
         INITIALIZE,
-        r##"{"jsonrpc":"2.0","method":"textDocument/didOpen","params":{"textDocument":{"uri":"file:///p/a.rb","languageId":"ruby","version":1,"text":"# typed: true\n# 😀😀\nnil\n"}}}"##,
-        r#"{"jsonrpc":"2.0","method":"textDocument/didChange","params":{"textDocument":{"uri":"file:///p/a.rb","version":2},"contentChanges":[{"range":{"start":{"line":1,"character":3},"end":{"line":1,"character":6}},"text":""},{"range":{"start":{"line":1,"character":0},"end":{"line":2,"character":3}},"text":"T.reveal_type(1)"}]}}"#,
+        r##"{"jsonrpc":"2.0","method":"textDocument/didOpen","params":{"textDocument":{"uri":"file:///p/a.rb","languageId":"ruby","version":1,"text":"# typed: true\n# 😀😀\nx = '😀' )\n"}}}"##,
+        r#"{"jsonrpc":"2.0","method":"textDocument/didChange","params":{"textDocument":{"uri":"file:///p/a.rb","version":2},"contentChanges":[{"range":{"start":{"line":1,"character":3},"end":{"line":1,"character":6}},"text":""},{"range":{"start":{"line":1,"character":0},"end":{"line":2,"character":10}},"text":"T.reveal_type(1)"}]}}"#,
         SHUTDOWN,
         EXIT,
     ];
     let written = [
         INITIALIZED,
-        r#"{"jsonrpc":"2.0","method":"textDocument/publishDiagnostics","params":{"diagnostics":[{"code":9000,"message":"not built yet","range":{"end":{"character":0,"line":0},"start":{"character":0,"line":0}},"severity":1,"source":"srb"}],"epoch":1,"uri":"file:///p/a.rb"}}"#,
+        r#"{"jsonrpc":"2.0","method":"textDocument/publishDiagnostics","params":{"diagnostics":[{"code":2001,"message":"syntax error","range":{"end":{"character":10,"line":2},"start":{"character":9,"line":2}},"severity":1,"source":"srb"}],"epoch":1,"uri":"file:///p/a.rb"}}"#,
         r#"{"jsonrpc":"2.0","method":"textDocument/publishDiagnostics","params":{"diagnostics":[{"code":7014,"message":"type is Integer","range":{"end":{"character":16,"line":1},"start":{"character":0,"line":1}},"severity":1,"source":"srb"}],"epoch":2,"uri":"file:///p/a.rb"}}"#,
         NULL,
     ];

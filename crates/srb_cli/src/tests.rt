@@ -78,7 +78,7 @@ fn checked<R: Threads + Wait + Sync>(
 }
 
 /// Inputs, and the reports that they have.
-const ROWS: [(&str, &str); 20] = [
+const ROWS: [(&str, &str); 31] = [
     ("", ""),
     (
         "# typed: true\nx = T.let(\"a\", Integer)\n",
@@ -89,7 +89,11 @@ const ROWS: [(&str, &str); 20] = [
         "# typed: true\nT.reveal_type(nil)\n",
         "stdin.rb:2:1: 7014 type is NilClass\n",
     ),
-    ("class A; end", "stdin.rb:1:1: 9000 not built yet\n"),
+    ("class A; end", ""),
+    (
+        "# typed: true\nclass A; end",
+        "stdin.rb:1:1: 9000 not built yet\n",
+    ),
     (
         "# typed: true\nT.let(true, Integer)\n",
         "stdin.rb:2:7: 7007 expected Integer, found TrueClass\n",
@@ -109,16 +113,29 @@ const ROWS: [(&str, &str); 20] = [
         "stdin.rb:5:1: 7014 type is Integer\n",
     ),
     ("nil\n# typed: true\nT.reveal_type(1)\n", ""),
-    ("# typed: ignore\n)", "stdin.rb:1:1: 9000 not built yet\n"),
-    ("0123456789", "stdin.rb:1:1: 9000 not built yet\n"),
-    ("1234567890123456789", "stdin.rb:1:1: 9000 not built yet\n"),
-    ("if = 1\n", "stdin.rb:1:1: 9000 not built yet\n"),
-    ("1a = 1\n", "stdin.rb:1:1: 9000 not built yet\n"),
-    ("x  = 1\n", "stdin.rb:1:1: 9000 not built yet\n"),
-    ("x = 1 \n", "stdin.rb:1:1: 9000 not built yet\n"),
+    ("# typed: ignore\n)", ""),
+    ("0123456789", "stdin.rb:1:1: 9001 outside the profile\n"),
+    ("1234567890123456789", ""),
     (
-        "T.let(1, Integer)\r\n",
+        "# typed: true\n1234567890123456789",
         "stdin.rb:1:1: 9000 not built yet\n",
+    ),
+    ("if = 1\n", "stdin.rb:1:4: 2001 syntax error\n"),
+    ("1a = 1\n", "stdin.rb:1:1: 9001 outside the profile\n"),
+    ("x  = 1\n", ""),
+    ("x = 1 \n", ""),
+    ("\t", ""),
+    ("\"😀\"", ""),
+    ("\"😀\" )", "stdin.rb:1:5: 2001 syntax error\n"),
+    ("f -1", "stdin.rb:1:3: 2001 syntax error\n"),
+    ("f(-1)", ""),
+    ("f /x/", "stdin.rb:1:3: 2001 syntax error\n"),
+    ("x = /a/", "stdin.rb:1:5: 9001 outside the profile\n"),
+    ("class A", "stdin.rb:1:8: 2001 syntax error\n"),
+    ("T.let(1, Integer)\r\n", ""),
+    (
+        "# typed: true\nT.let(1, String)\r\n",
+        "stdin.rb:2:7: 7007 expected String, found Integer\n",
     ),
 ];
 
@@ -137,15 +154,47 @@ fn reports_in_one_piece_and_in_single_bytes(rt: HostRuntime) -> Result<(), Fail>
 }
 
 #[test]
-fn bytes_that_are_no_text(rt: HostRuntime) -> Result<(), Fail> {
-    for input in [b"\xff".as_slice(), b"nil\0", b"\t", b"\"\xf0\x9f\x98\x80\""] {
+fn bytes_that_are_no_text_or_no_program(rt: HostRuntime) -> Result<(), Fail> {
+    for (input, report) in [
+        (b"\xff".as_slice(), "stdin.rb:1:1: 9009 not UTF-8\n"),
+        (
+            b"# typed: ignore\n\xf0\x9f\x98",
+            "stdin.rb:1:1: 9009 not UTF-8\n",
+        ),
+        (b"nil\0", "stdin.rb:1:4: 2001 syntax error\n"),
+    ] {
         let (status, held) = checked(&rt, rt.alloc(), input, &[])?;
-        assert_eq!(rt;
-            held.as_slice(),
-            b"stdin.rb:1:1: 9000 not built yet\n".as_slice()
-        );
+        assert_eq!(rt; held.as_slice(), report.as_bytes());
         assert_eq!(rt; status, 1);
     }
+    Ok(())
+}
+
+/// Brackets inside one another.
+fn nested(alloc: Global, count: usize) -> Result<Vec<u8>, AllocError> {
+    let mut text = Vec::new(alloc);
+    for _ in 0..count {
+        text.push(b'[')?;
+    }
+    for _ in 0..count {
+        text.push(b']')?;
+    }
+    Ok(text)
+}
+
+#[test]
+fn brackets_of_two_hundred_levels(rt: HostRuntime) -> Result<(), Fail> {
+    let input = nested(rt.alloc(), 200)?;
+    let (status, held) = checked(&rt, rt.alloc(), input.as_slice(), &[])?;
+    assert_eq!(rt; held.as_slice(), b"".as_slice());
+    assert_eq!(rt; status, 0);
+    let input = nested(rt.alloc(), 201)?;
+    let (status, held) = checked(&rt, rt.alloc(), input.as_slice(), &[])?;
+    assert_eq!(rt;
+        held.as_slice(),
+        b"stdin.rb:1:201: 9008 nesting is deeper than 200\n".as_slice()
+    );
+    assert_eq!(rt; status, 1);
     Ok(())
 }
 
@@ -231,7 +280,7 @@ fn a_source_that_fails_at_each_of_its_reads(rt: HostRuntime) -> Result<(), Fail>
 fn a_sink_that_fails_or_takes_one_byte_at_a_time(rt: HostRuntime) -> Result<(), Fail> {
     let alloc = rt.alloc();
     let words = [String::from_str(alloc, "text")?];
-    let report = b"stdin.rb:1:1: 9000 not built yet\n";
+    let report = b"stdin.rb:1:1: 2001 syntax error\n";
     let mut source = source_of(alloc, b")", &[], &[])?;
     let mut sink = sink_of(alloc, &[1])?;
     let ended = run(

@@ -1,6 +1,0 @@
-use Rattle.std.proofs.Common.{◌≡◌, ◌+◌, drop}
-use Rattle.srb_check.specs.Thin.{line_length}
-use Rattle.srb_check.proofs.thin.line_length.Given as goal
-
-abbrev pub invariant-loop-at : goal.invariant-loop-at
-invariant-loop-at l = line_length l.text ≡ l.at + line_length (drop l.at l.text)
