@@ -22,7 +22,7 @@ fn shows_types(level: Level) -> bool
     }
 }
 
-/// The errors of a list that has one error.
+/// A list of one error.
 fn one_error(alloc: Global, error: Diag) -> Result<Vec<Diag>, AllocError>
     ensures { IfOk result (λ ds. ds.items ≡ error ∷ []) }
 {
