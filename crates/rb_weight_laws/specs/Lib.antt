@@ -1,0 +1,4 @@
+pub mod Roles
+pub mod Weights
+pub mod Laws
+pub mod Examples
