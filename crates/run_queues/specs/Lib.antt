@@ -1,0 +1,4 @@
+pub mod Handing
+pub mod Held
+pub mod Showings
+pub mod Steps
