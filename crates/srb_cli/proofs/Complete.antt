@@ -1,4 +1,4 @@
--- Where nothing failed and all is within the limits, a session is served.
+-- Where nothing failed and all is within the limits, files are checked and a session is served.
 use Rattle.std.proofs.Common.{◌≡◌, inl, inr, ℕ, ◌+◌, ◌≤◌, nat_lt, Bool, true, false, ◌||◌, if◌then◌else◌, List, [], ◌∷◌, ◌++◌, length, map, None, Some, refl, sym, ap, ◌∙◌, subst, arith, append-nil, bytes_eq}
 use Rattle.std.specs.Prelude.{Option, unwrap_or}
 use Rattle.std.specs.Io.KnownBytes.{Consumes, IsAtEnd}
@@ -21,7 +21,7 @@ use Rattle.srb_cli.specs.Folders.{IsTold, AreTold, IsFolder, IsWithin, IsPastFil
 use Rattle.srb_cli.specs.Inputs.{has_exit, end_of, end_behind, cause_of, GoesOn}
 use Rattle.srb_cli.specs.Served.{ServesWhole, has_failed, is_shut}
 use Rattle.srb_cli.specs.Inputs.{messages_of}
-use Rattle.srb_cli.specs.Ends.{EndsServing, Serves, IsServed}
+use Rattle.srb_cli.specs.Ends.{EndsChecking, EndsServing, Checks, Serves, IsChecked, IsServed}
 use Rattle.srb_cli.proofs.Folders.{length-paths_of, total_bytes-append}
 use Rattle.srb_cli.proofs.Lasting.{end_lasts}
 
@@ -121,12 +121,13 @@ not_big told base path folder within past =
     let fits : total_bytes past.front + length past.bytes ≤ total_bytes base = up_to told past.front path past.bytes past.later base same past.read past.there folder.read in
     absurd (omega (arith, fits, past.past, within.bytes))
 
+-- where nothing failed, a folder within the limits gives no project for want of memory alone
 unread : (told : List File) (base : Project) (cause : Cause) (before behind : ℕ) → IsFolder (Some told) base → IsWithin base → behind ≡ before
-    → IsUnread cause (Some told) before behind → IsServed cause
+    → IsUnread cause (Some told) before behind → cause ≡ NoMemory
 unread told base ReadFault before behind folder within same u = absurd (omega (arith, same, u))
 unread told base (TooMany n) before behind folder within same u = absurd (not_many told base n folder within u.0)
 unread told base (TooBig path) before behind folder within same u = absurd (not_big told base path folder within u.0)
-unread told base NoMemory before behind folder within same u = tt
+unread told base NoMemory before behind folder within same u = refl
 unread told base Done before behind folder within same u = absurd u
 unread told base Errors before behind folder within same u = absurd u
 unread told base NoShutdown before behind folder within same u = absurd u
@@ -206,6 +207,31 @@ pub served_whole : (dir : List ℕ) (cause : Cause) (c : Course) (f : Listing) �
     → (base : Project) → IsFolder (Some files) base → IsWithin base → (bytes : List ℕ) → c.left_before ≡ Some bytes → (bodies_of bytes).end ≡ Closed
     → NoFileFailed f → NoReadFailed c → NoWriteFailed c → IsServed cause
 served_whole dir cause c f (inl before) files told base folder within bytes left closed listed reads writes =
-    unread files base cause f.failed_before f.failed_behind folder within listed (subst (λ o. IsUnread cause o f.failed_before f.failed_behind) told before.1)
+    let none : cause ≡ NoMemory =
+    unread files base cause f.failed_before f.failed_behind folder within listed (subst (λ o. IsUnread cause o f.failed_before f.failed_behind) told before.1) in
+    subst IsServed (sym none) tt
 served_whole dir cause c f (inr (b, begun, s)) files told base folder within bytes left closed listed reads writes =
     serves b cause c bytes left closed reads writes s
+
+-- ---- the end of a check
+
+checked : (base : Project) (cause : Cause) (c : Course) → NoWriteFailed c → Checks base cause c → IsChecked cause
+checked base Done c writes s = tt
+checked base Errors c writes s = tt
+checked base NoMemory c writes s = tt
+checked base WriteFault c writes s = absurd (omega (arith, writes, s.1))
+checked base NoShutdown c writes s = absurd s
+checked base Usage c writes s = absurd s
+checked base ReadFault c writes s = absurd s
+checked base (Broken at) c writes s = absurd s
+checked base (TooLong size) c writes s = absurd s
+checked base (TooMany files) c writes s = absurd s
+checked base (TooBig path) c writes s = absurd s
+
+pub checked_whole : (dir : List ℕ) (cause : Cause) (c : Course) (f : Listing) → EndsChecking dir cause c f → (files : List File) → f.told dir ≡ Some files
+    → (base : Project) → IsFolder (Some files) base → IsWithin base → NoFileFailed f → NoWriteFailed c → IsChecked cause
+checked_whole dir cause c f (inl before) files told base folder within listed writes =
+    let none : cause ≡ NoMemory =
+    unread files base cause f.failed_before f.failed_behind folder within listed (subst (λ o. IsUnread cause o f.failed_before f.failed_behind) told before.1) in
+    subst IsChecked (sym none) tt
+checked_whole dir cause c f (inr (b, given, nothing, s)) files told base folder within listed writes = checked b cause c writes s

@@ -1,5 +1,6 @@
 pub mod Complete
 pub mod Deeds
+pub mod Exclusive
 pub mod Folders
 pub mod Hearing
 pub mod Lasting

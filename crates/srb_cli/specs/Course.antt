@@ -51,6 +51,10 @@ Writes c bytes = Appends c.held_before c.held_behind bytes
 abbrev pub WritesPart : Course → List ℕ → Type 0
 WritesPart c bytes = AppendsPart c.held_before c.held_behind bytes
 
+-- nothing was read of the source, and no read of it failed
+abbrev pub ReadsNothing : Course → Type 0
+ReadsNothing c = (c.left_behind ≡ c.left_before) × NoReadFailed c
+
 -- nothing was read of the source, nothing was written, and nothing of the two failed
 pub record IsUntouched (c : Course) : Type 0 where
   pub unread : c.left_behind ≡ c.left_before

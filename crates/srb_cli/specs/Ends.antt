@@ -10,8 +10,8 @@ use Rattle.srb_check.specs.Reports.{report_of}
 use Rattle.lsp_docs.specs.Projects.{Project}
 use Rattle.lsp_frame.specs.Bodies.{bodies_of}
 use Rattle.lsp_frame.specs.Bodies.Ending.{Closed}
-use Rattle.srb_cli.specs.Usage.{is_text, served_folder, usage_line}
-use Rattle.srb_cli.specs.Course.{Course, Listing, NoFileFailed, NoReadFailed, NoWriteFailed, AReadFailed, AWriteFailed, Writes, WritesPart, IsUntouched}
+use Rattle.srb_cli.specs.Usage.{is_text, checked_folder, served_folder, usage_line}
+use Rattle.srb_cli.specs.Course.{Course, Listing, NoFileFailed, NoReadFailed, NoWriteFailed, AReadFailed, AWriteFailed, Writes, WritesPart, ReadsNothing, IsUntouched}
 use Rattle.srb_cli.specs.Folders.{IsFolder, IsWithin, IsUnread}
 use Rattle.srb_cli.specs.Served.{ServesWhole, ServesPart, ServesFront}
 
@@ -75,17 +75,40 @@ pub record EndsUsage (cause : Cause) (c : Course) : Type 0 where
   pub unfailed : NoReadFailed c
   pub unread : c.left_behind ≡ c.left_before
 
--- ---- the command `lsp DIR`
+-- ---- a folder is read
 
--- Before the session: the folder gave no project, and nothing was read of the source or written.
+-- The folder gave no project, and nothing was read of the source or written.
 abbrev pub EndsBefore : List ℕ → Cause → Course → Listing → Type 0
 EndsBefore dir cause c f = IsUntouched c × IsUnread cause (f.told dir) f.failed_before f.failed_behind
 
--- In the session: the folder gave this project, no larger than a project may be.
-pub record HasBegun (dir : List ℕ) (base : Project) (f : Listing) : Type 0 where
+-- The folder gave this project, no larger than a project may be.
+pub record Gives (dir : List ℕ) (base : Project) (f : Listing) : Type 0 where
   pub folder : IsFolder (f.told dir) base
   pub within : IsWithin base
   pub unfailed : NoFileFailed f
+
+-- ---- the command `tc DIR`
+
+-- how the check of a project ends, cause by cause: the others never come
+abbrev pub Checks : Project → Cause → Course → Type 0
+Checks base Done c = (report_of base ≡ []) × Writes c [] × NoWriteFailed c
+Checks base Errors c = (report_of base ≢ []) × Writes c (report_of base) × NoWriteFailed c
+Checks base WriteFault c = WritesPart c (report_of base) × AWriteFailed c
+Checks base NoMemory c = Writes c [] × NoWriteFailed c
+Checks base NoShutdown c = ⊥
+Checks base Usage c = ⊥
+Checks base ReadFault c = ⊥
+Checks base (Broken at) c = ⊥
+Checks base (TooLong size) c = ⊥
+Checks base (TooMany files) c = ⊥
+Checks base (TooBig path) c = ⊥
+
+-- how the command ends: the folder gave no project, or its files were checked, and nothing was read of the source
+abbrev pub EndsChecking : List ℕ → Cause → Course → Listing → Type 0
+EndsChecking dir cause c f =
+    EndsBefore dir cause c f ⊎ ((base : Project) × Gives dir base f × ReadsNothing c × Checks base cause c)
+
+-- ---- the command `lsp DIR`
 
 -- how a session over a project ends, cause by cause: the others never come
 abbrev pub Serves : Project → Cause → Course → Type 0
@@ -104,17 +127,19 @@ Serves base (TooBig path) c = ⊥
 -- how the command ends: before the session or in it
 abbrev pub EndsServing : List ℕ → Cause → Course → Listing → Type 0
 EndsServing dir cause c f =
-    EndsBefore dir cause c f ⊎ ((base : Project) × HasBegun dir base f × Serves base cause c)
+    EndsBefore dir cause c f ⊎ ((base : Project) × Gives dir base f × Serves base cause c)
 
 -- ---- any words
 
--- how a call with these words ends; only `lsp` calls on the files
+-- how a call with these words ends; only `tc` and `lsp` call on the files
 abbrev pub Ends : List (List ℕ) → Cause → Course → Listing → Type 0
 Ends words cause c f =
     MatchBool (is_text words) (EndsText cause c × NoFileFailed f)
+    (MatchOption (checked_folder words)
     (MatchOption (served_folder words) (EndsUsage cause c × NoFileFailed f) (λ dir. EndsServing dir cause c f))
+    (λ dir. EndsChecking dir cause c f))
 
--- the causes that are left for the command `text` where the input is within the limit and nothing failed
+-- the causes that are left for the commands `text` and `tc DIR` where all is within the limits and nothing failed
 abbrev pub IsChecked : Cause → Type 0
 IsChecked Done = Unit {0}
 IsChecked Errors = Unit {0}
@@ -133,6 +158,13 @@ IsChecked (TooBig path) = ⊥
 abbrev pub IsComplete : List (List ℕ) → Cause → Course → Type 0
 IsComplete words cause c =
     IsTrue (is_text words) → (bytes : List ℕ) → c.left_before ≡ Some bytes → length bytes ≤ LARGEST_INPUT → NoReadFailed c → NoWriteFailed c → IsChecked cause
+
+-- completeness of the command `tc DIR`: where the files are told and are no more than a project may have, and no count has
+-- risen, the project was checked
+abbrev pub IsCheckedWhole : List (List ℕ) → Cause → Course → Listing → Type 0
+IsCheckedWhole words cause c f =
+    (dir : List ℕ) → checked_folder words ≡ Some dir → (files : List File) → f.told dir ≡ Some files
+    → (base : Project) → IsFolder (Some files) base → IsWithin base → NoFileFailed f → NoWriteFailed c → IsChecked cause
 
 -- the causes that are left for the command `lsp DIR` where all is within the limits and nothing failed
 abbrev pub IsServed : Cause → Type 0

@@ -1,5 +1,5 @@
 -- The command line.
-use Rattle.std.specs.Prelude.{ℕ, Bool, List, [], ◌∷◌, ◌&&◌, ◌==◌, not, codes, bytes_eq, length, false, Option, None, Some, if◌then◌else◌}
+use Rattle.std.specs.Prelude.{ℕ, Bool, List, [], ◌∷◌, ◌&&◌, ◌||◌, ◌==◌, not, codes, bytes_eq, length, false, Option, None, Some, is_some, if◌then◌else◌}
 
 -- whether the words are those of the command `text`
 abbrev pub is_text : List (List ℕ) → Bool
@@ -16,10 +16,19 @@ abbrev pub only_folder : List (List ℕ) → Option (List ℕ)
 only_folder [] = None
 only_folder (word ∷ words) = if names_folder word && length words == 0 then Some word else None
 
+-- the folder that is checked, where the words are those of the command `tc DIR`
+abbrev pub checked_folder : List (List ℕ) → Option (List ℕ)
+checked_folder [] = None
+checked_folder (word ∷ words) = if bytes_eq word (codes "tc") then only_folder words else None
+
 -- the folder that is served, where the words are those of the command `lsp DIR`
 abbrev pub served_folder : List (List ℕ) → Option (List ℕ)
 served_folder [] = None
 served_folder (word ∷ words) = if bytes_eq word (codes "lsp") then only_folder words else None
+
+-- whether the words are those of a command that checks once and ends: `text` or `tc DIR`
+abbrev pub checks_once : List (List ℕ) → Bool
+checks_once words = is_text words || is_some (checked_folder words)
 
 -- what is written where the words are no command
 abbrev pub usage_line : List ℕ

@@ -1,10 +1,10 @@
 ghost use Rattle.std.specs.Prelude.{◌≡◌, ◌-◌, ◌^◌, ◌<◌, map, string_bytes};
 ghost use Rattle.srb_terms.specs.Statuses.{status_of};
-ghost use Rattle.srb_cli.specs.Ends.{Ends, IsComplete, IsServedWhole};
+ghost use Rattle.srb_cli.specs.Ends.{Ends, IsCheckedWhole, IsComplete, IsServedWhole};
 
 use crate::one_thread::once;
 use crate::serving::lsp;
-use crate::usage::{is_text, served_folder, usage};
+use crate::usage::{checks_once, served_folder, usage};
 use srb_io::{Files, Sink, Source};
 use srb_terms::Ended;
 use std::alloc::Global;
@@ -48,6 +48,20 @@ pub fn run<R: Threads + Wait + Sync, F: Files, S: Source + Send, K: Sink + Send>
       writes_before = K.faults sink.old;
       writes_behind = K.faults sink.new;
     } }
+    ensures checked { IsCheckedWhole (map string_bytes words.now) result.cause record {
+      left_before = S.left source.old;
+      left_behind = S.left source.new;
+      held_before = K.held sink.old;
+      held_behind = K.held sink.new;
+      reads_before = S.faults source.old;
+      reads_behind = S.faults source.new;
+      writes_before = K.faults sink.old;
+      writes_behind = K.faults sink.new;
+    } record {
+      told = F.told files.old;
+      failed_before = F.faults files.old;
+      failed_behind = F.faults files.new;
+    } }
     ensures served { IsServedWhole (map string_bytes words.now) result.cause record {
       left_before = S.left source.old;
       left_behind = S.left source.new;
@@ -63,7 +77,7 @@ pub fn run<R: Threads + Wait + Sync, F: Files, S: Source + Send, K: Sink + Send>
       failed_behind = F.faults files.new;
     } }
 {
-    if is_text(words) {
+    if checks_once(words) {
         return once(alloc, words, files, source, sink);
     }
     match served_folder(words) {

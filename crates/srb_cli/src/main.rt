@@ -1,9 +1,13 @@
 //! The program `srb`: its words, and what each command reads, writes and answers.
 #![tactic(auto)]
 
+mod checking;
 mod commands;
 mod folder;
+#[cfg(test)]
+mod folder_tests;
 mod one_thread;
+mod report;
 mod serving;
 mod session;
 #[cfg(test)]

@@ -1,14 +1,18 @@
+//! The commands that check once and end: `text` and `tc DIR`.
+
 ghost use Rattle.std.specs.Prelude.{◌≡◌, ◌-◌, ◌^◌, ◌<◌, IsTrue, map, string_bytes};
 ghost use Rattle.srb_terms.specs.Statuses.{status_of};
-ghost use Rattle.srb_cli.specs.Ends.{EndsText};
-ghost use Rattle.srb_cli.specs.Usage.{is_text};
+ghost use Rattle.srb_cli.specs.Ends.{Ends, IsCheckedWhole, IsComplete};
+ghost use Rattle.srb_cli.specs.Usage.{checks_once};
 
+use crate::checking::tc;
 use crate::text::text;
+use crate::usage::{checked_folder, is_text};
 use srb_io::{Files, Sink, Source};
 use srb_terms::Ended;
 use std::alloc::Global;
 
-/// The command `text`, which waits for nobody and returns.
+/// Does what the words of `text` or `tc DIR` say. It waits for nobody and returns.
 pub fn once<F: Files, S: Source, K: Sink>(
     alloc: Global,
     words: &[String],
@@ -16,11 +20,26 @@ pub fn once<F: Files, S: Source, K: Sink>(
     source: &mut S,
     sink: &mut K,
 ) -> Ended
-    requires words { IsTrue (is_text (map string_bytes words.now)) }
+    requires words { IsTrue (checks_once (map string_bytes words.now)) }
+    requires files { F.faults files.old < 2 ^ 64 - 1 }
     requires reads { S.faults source.old < 2 ^ 64 - 1 }
     requires writes { K.faults sink.old < 2 ^ 64 - 1 }
     ensures status { result.status ≡ status_of result.cause }
-    ensures ends { EndsText result.cause record {
+    ensures ends { Ends (map string_bytes words.now) result.cause record {
+      left_before = S.left source.old;
+      left_behind = S.left source.new;
+      held_before = K.held sink.old;
+      held_behind = K.held sink.new;
+      reads_before = S.faults source.old;
+      reads_behind = S.faults source.new;
+      writes_before = K.faults sink.old;
+      writes_behind = K.faults sink.new;
+    } record {
+      told = F.told files.old;
+      failed_before = F.faults files.old;
+      failed_behind = F.faults files.new;
+    } }
+    ensures complete { IsComplete (map string_bytes words.now) result.cause record {
       left_before = S.left source.old;
       left_behind = S.left source.new;
       held_before = K.held sink.old;
@@ -30,9 +49,26 @@ pub fn once<F: Files, S: Source, K: Sink>(
       writes_before = K.faults sink.old;
       writes_behind = K.faults sink.new;
     } }
-    ensures unlisted { F.faults files.new ≡ F.faults files.old }
+    ensures checked { IsCheckedWhole (map string_bytes words.now) result.cause record {
+      left_before = S.left source.old;
+      left_behind = S.left source.new;
+      held_before = K.held sink.old;
+      held_behind = K.held sink.new;
+      reads_before = S.faults source.old;
+      reads_behind = S.faults source.new;
+      writes_before = K.faults sink.old;
+      writes_behind = K.faults sink.new;
+    } record {
+      told = F.told files.old;
+      failed_before = F.faults files.old;
+      failed_behind = F.faults files.new;
+    } }
 {
-    let _words = words;
-    let _files = files;
-    Ended::new(text(alloc, source, sink))
+    if is_text(words) {
+        return Ended::new(text(alloc, source, sink));
+    }
+    match checked_folder(words) {
+        Some(dir) => Ended::new(tc(alloc, dir, files, sink)),
+        None => unreachable!(),
+    }
 }

@@ -36,13 +36,13 @@ fn frames_of(alloc: Global, bodies: &[&str]) -> Result<Vec<u8>, AllocError> {
     Ok(frames)
 }
 
-fn source_of(bytes: Vec<u8>, pieces: Vec<u32>, fail_at: Vec<u64>) -> MemSource
+pub(crate) fn source_of(bytes: Vec<u8>, pieces: Vec<u32>, fail_at: Vec<u64>) -> MemSource
     ensures { ⟦<MemSource as Source>⟧.faults result ≡ 0 }
 {
     MemSource::new(bytes, pieces, fail_at)
 }
 
-fn sink_of(alloc: Global, fail_at: Vec<u64>) -> MemSink
+pub(crate) fn sink_of(alloc: Global, fail_at: Vec<u64>) -> MemSink
     ensures { ⟦<MemSink as Sink>⟧.faults result ≡ 0 }
 {
     MemSink::new(Vec::new(alloc), fail_at)
@@ -302,7 +302,12 @@ fn begun<R: Threads + Wait + Sync>(
 }
 
 /// So many files of so many bytes, and one more of this size.
-fn many_files(alloc: Global, count: usize, size: usize, last: usize) -> Result<MemFiles, AllocError>
+pub(crate) fn many_files(
+    alloc: Global,
+    count: usize,
+    size: usize,
+    last: usize,
+) -> Result<MemFiles, AllocError>
     ensures { IfOk result (λ f. ⟦<MemFiles as Files>⟧.faults f ≡ 0) }
 {
     let mut list = Vec::new(alloc);

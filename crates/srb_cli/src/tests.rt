@@ -227,7 +227,10 @@ fn other_words(rt: HostRuntime) -> Result<(), Fail> {
     let alloc = rt.alloc();
     for words in [
         [].as_slice(),
-        &["tc", "d"],
+        &["tc"],
+        &["tc", "-d"],
+        &["tc", ""],
+        &["tc", "d", "e"],
         &["text", "text"],
         &["Text"],
         &["--help"],

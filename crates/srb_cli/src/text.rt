@@ -1,12 +1,10 @@
-ghost use Rattle.std.specs.Prelude.{◌≡◌, ◌-◌, ◌^◌, ◌<◌, ◌∷◌, [], IfOk, length};
-ghost use Rattle.srb_cli.specs.Ends.{EndsText, IsTooBig, Reported, text_report};
+ghost use Rattle.std.specs.Prelude.{◌≡◌, ◌-◌, ◌^◌, ◌<◌, IfOk};
+ghost use Rattle.srb_cli.specs.Ends.{EndsText, IsTooBig, text_report};
 
-use srb_check::{check_file, load, push_report};
-use srb_io::{ReadAllEnd, Sink, Source, read_all, write_all};
-use srb_terms::{Cause, Name, Steps, World};
+use crate::report::{report, write_report};
+use srb_io::{ReadAllEnd, Sink, Source, read_all};
+use srb_terms::{Cause, Name, ProjectFile};
 use std::alloc::{AllocError, Global};
-use std::marker::Brand;
-use std::sync::ledger::{Blank, Ledger};
 
 /// The most bytes of all texts together.
 const LARGEST_INPUT: usize = 16_777_216;
@@ -14,26 +12,12 @@ const LARGEST_INPUT: usize = 16_777_216;
 /// The path under which the command checks what it reads.
 const TEXT_PATH: &str = "stdin.rb";
 
-/// The report of a file's bytes, by a check whose steps are counted on this blank.
-fn report_by<L: Ledger>(alloc: Global, bytes: &[u8], blank: Blank) -> Result<Vec<u8>, AllocError>
-    requires name { blank.name ≡ L.name }
-    requires parts { blank.parts ≡ L.parts }
-    requires some { 0 < blank.parts }
-    ensures { IfOk result (λ r. r.items ≡ text_report bytes.now) }
-{
-    let mut steps: Steps<L> = Steps::new(blank);
-    let file = load(alloc, bytes)?;
-    let errors = check_file(alloc, &World {}, &file, &mut steps)?;
-    let mut report = Vec::new(alloc);
-    push_report(&mut report, TEXT_PATH, bytes, errors.as_slice())?;
-    Ok(report)
-}
-
 /// The report of the bytes as the file that the command checks.
-fn report(alloc: Global, bytes: &[u8]) -> Result<Vec<u8>, AllocError>
-    ensures { IfOk result (λ r. r.items ≡ text_report bytes.now) }
+fn text_report(alloc: Global, bytes: Vec<u8>) -> Result<Vec<u8>, AllocError>
+    ensures { IfOk result (λ r. r.items ≡ text_report bytes.items) }
 {
-    report_by::<Brand>(alloc, bytes, Blank::new(1))
+    let path = Name::from_str(alloc, TEXT_PATH)?;
+    report(alloc, &[ProjectFile::new(path, bytes)])
 }
 
 /// The cause where the input is larger than the limit.
@@ -43,20 +27,6 @@ fn too_big(alloc: Global) -> Cause
     match Name::from_str(alloc, TEXT_PATH) {
         Ok(path) => Cause::TooBig { path },
         Err(_) => Cause::NoMemory,
-    }
-}
-
-/// Writes a report. The cause tells whether it is empty, and whether the sink failed.
-fn write_report<K: Sink>(sink: &mut K, report: &[u8]) -> Cause
-    requires { K.faults sink.old < 2 ^ 64 - 1 }
-    ensures { Reported result report.now (K.held sink.old) (K.held sink.new) (K.faults sink.old) (K.faults sink.new) }
-{
-    if report.is_empty() {
-        return Cause::Done;
-    }
-    match write_all(sink, report) {
-        Ok(()) => Cause::Errors,
-        Err(_) => Cause::WriteFault,
     }
 }
 
@@ -76,7 +46,7 @@ pub fn text<S: Source, K: Sink>(alloc: Global, source: &mut S, sink: &mut K) -> 
     } }
 {
     match read_all(alloc, source, LARGEST_INPUT) {
-        Ok(bytes) => match report(alloc, bytes.as_slice()) {
+        Ok(bytes) => match text_report(alloc, bytes) {
             Ok(report) => write_report(sink, report.as_slice()),
             Err(_) => Cause::NoMemory,
         },

@@ -2,7 +2,7 @@ ghost use Rattle.std.specs.Prelude.{◌≡◌, ◌-◌, ◌^◌, ◌<◌, map, s
 ghost use Rattle.std.specs.Option.{option_copied};
 ghost use Rattle.srb_terms.specs.Statuses.{status_of};
 ghost use Rattle.srb_terms.specs.declared.cause.Cause.TheVariants.{Usage};
-ghost use Rattle.srb_cli.specs.Usage.{is_text, names_folder, served_folder, usage_line};
+ghost use Rattle.srb_cli.specs.Usage.{checked_folder, checks_once, is_text, names_folder, served_folder, usage_line};
 ghost use Rattle.srb_cli.specs.Ends.{UsageWritten};
 
 use srb_io::{Sink, write_all};
@@ -29,6 +29,23 @@ fn names_folder(word: &str) -> bool
         [] => false,
         [byte, ..] => *byte != b'-',
     }
+}
+
+/// The folder that is checked, where the words are those of the command `tc DIR`.
+pub fn checked_folder(words: &[String]) -> Option<&str>
+    ensures { option_copied result ≡ checked_folder (map string_bytes words.now) }
+{
+    match words {
+        [word, dir] if word.as_str() == "tc" && names_folder(dir.as_str()) => Some(dir.as_str()),
+        _ => None,
+    }
+}
+
+/// Whether the words are those of a command that checks once and ends: `text` or `tc DIR`.
+pub fn checks_once(words: &[String]) -> bool
+    ensures { result ≡ checks_once (map string_bytes words.now) }
+{
+    is_text(words) || checked_folder(words).is_some()
 }
 
 /// The folder that is served, where the words are those of the command `lsp DIR`.
