@@ -5,12 +5,12 @@ use Rattle.rb_tree.specs.declared.syntax.Tree.{Tree}
 use Rattle.rb_tree.specs.declared.token.Token.{Token}
 use Rattle.rb_tree.specs.declared.token.Shape.TheVariants as shape
 use Rattle.rb_expr.specs.Reading.{Parser, sees, skip_separators}
-use Rattle.rb_grammar.specs.Tokens.{Is}
-use Rattle.rb_grammar.specs.Forms.{Site}
-use Rattle.rb_grammar.specs.Grammar.{Gap, DerivesStatement, DerivesMore}
-use Rattle.rb_grammar.specs.Grammar.Gap.{Closed, Wide}
-use Rattle.rb_grammar.specs.Grammar.DerivesBody.{NoStatement, Statements}
-use Rattle.rb_grammar.specs.Grammar.DerivesMore.{NoMore, Another}
+use Rattle.rb_rules.specs.Tokens.{Is}
+use Rattle.rb_rules.specs.Forms.{Site}
+use Rattle.rb_rules.specs.Grammar.{Gap, DerivesStatement, DerivesMore}
+use Rattle.rb_rules.specs.Grammar.Gap.{Closed, Wide}
+use Rattle.rb_rules.specs.Grammar.DerivesBody.{NoStatement, Statements}
+use Rattle.rb_rules.specs.Grammar.DerivesMore.{NoMore, Another}
 use Rattle.rb_grammar.proofs.Steps.{same}
 use Rattle.rb_completion_laws.proofs.Steps.{Rel, Seq, Plain, plainly, headed, parted, One, Perhaps, nothing}
 use Rattle.rb_completion_laws.proofs.Viable.{ABody, AStatement}

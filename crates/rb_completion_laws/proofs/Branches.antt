@@ -17,16 +17,16 @@ use Rattle.rb_expr.specs.Statements.{ending_of}
 use Rattle.rb_expr.specs.Reading.{Parser, sees, skip_separators}
 use Rattle.rb_expr.specs.Branches as spec
 use Rattle.rb_expr.specs.Branches.{after_then, then_word, do_word, otherwise, elsif_arm, elsif_arms_from, elsif_arms, arms_of, branch, repeated, patterns_from, when_arm, when_arms_from, when_arms, choice}
-use Rattle.rb_grammar.specs.Tokens.{Is, IsAny}
-use Rattle.rb_grammar.specs.Forms.{Inside}
-use Rattle.rb_grammar.specs.Grammar.{IsRow, BRANCH_WORDS, LOOP_WORDS, Then, DerivesBody, DerivesTerm, DerivesArms, DerivesElse, DerivesSubject, DerivesWhens, DerivesPatterns}
-use Rattle.rb_grammar.specs.Grammar.Then.{Word, Line, LineWord}
-use Rattle.rb_grammar.specs.Grammar.DerivesArms.{NoArm, MoreArms}
-use Rattle.rb_grammar.specs.Grammar.DerivesElse.{NoElse, SomeElse}
-use Rattle.rb_grammar.specs.Grammar.DerivesSubject.{NoSubject, SomeSubject}
-use Rattle.rb_grammar.specs.Grammar.DerivesPatterns.{LastPattern, MorePatterns}
-use Rattle.rb_grammar.specs.Grammar.DerivesWhens.{NoWhen, MoreWhens}
-use Rattle.rb_grammar.specs.Grammar.DerivesPrimary.{Branches, Loops, Cases}
+use Rattle.rb_rules.specs.Tokens.{Is, IsAny}
+use Rattle.rb_rules.specs.Forms.{Inside}
+use Rattle.rb_rules.specs.Grammar.{IsRow, BRANCH_WORDS, LOOP_WORDS, Then, DerivesBody, DerivesTerm, DerivesArms, DerivesElse, DerivesSubject, DerivesWhens, DerivesPatterns}
+use Rattle.rb_rules.specs.Grammar.Then.{Word, Line, LineWord}
+use Rattle.rb_rules.specs.Grammar.DerivesArms.{NoArm, MoreArms}
+use Rattle.rb_rules.specs.Grammar.DerivesElse.{NoElse, SomeElse}
+use Rattle.rb_rules.specs.Grammar.DerivesSubject.{NoSubject, SomeSubject}
+use Rattle.rb_rules.specs.Grammar.DerivesPatterns.{LastPattern, MorePatterns}
+use Rattle.rb_rules.specs.Grammar.DerivesWhens.{NoWhen, MoreWhens}
+use Rattle.rb_rules.specs.Grammar.DerivesPrimary.{Branches, Loops, Cases}
 use Rattle.rb_grammar.proofs.Steps.{same}
 use Rattle.rb_completion_laws.proofs.Steps.{Rel, Stands, Seq, stands-as, seq-stands, reach-as, reach-one, gap-stands, Plain, plainly, seq, done, refusing, choosing, One, one-stands, expecting, parted, answering, if-seen, Perhaps, perhaps-stands, nothing, something, Closing, stands-end, seq-closing, closingly, headed-closing, last-stands, closing, before-last}
 use Rattle.rb_completion_laws.proofs.Viable.{Viable, ABody, ASimple, ATerm, APrimary, ends-so, body-stands, simple-stands, term-stands}

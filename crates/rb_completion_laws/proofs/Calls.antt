@@ -18,18 +18,18 @@ use Rattle.rb_expr.specs.Reading.{Outcome, Parser, and_then, sees, after, words_
 use Rattle.rb_expr.specs.Lists.{order_of, is_keyword, is_block, is_some_block, passes_block, goes_on, noted, is_among, fresh_name}
 use Rattle.rb_expr.specs.Calls as spec
 use Rattle.rb_expr.specs.Calls.{keyword, passed_block, positional, argument_by, listed_from, listed, in_brackets, brackets, index_arguments, optional_brackets, bare_from, bare, bar_names_from, bar_names, bars, block, optional_do, any_block, optional_block, command_block}
-use Rattle.rb_grammar.specs.Tokens.{Is, IsIdentifier}
-use Rattle.rb_grammar.specs.Spans.{last_of}
-use Rattle.rb_grammar.specs.Forms.{Inside, AreOrdered, HasNoBlock, AreDistinct, names_of}
-use Rattle.rb_grammar.specs.Grammar.{Gap, DerivesEnd, BarNames, Bars, DerivesBody, DerivesArgument, DerivesArguments, DerivesBrackets, DerivesBlock, DerivesDo, named as placed}
-use Rattle.rb_grammar.specs.Grammar.GapIn.{Tight, Loose}
-use Rattle.rb_grammar.specs.Grammar.BarNames.{LastBar, MoreBars}
-use Rattle.rb_grammar.specs.Grammar.Bars.{NoBars, SomeBars}
-use Rattle.rb_grammar.specs.Grammar.DerivesArgument.{ByPlace, ByName, AsBlock}
-use Rattle.rb_grammar.specs.Grammar.DerivesArguments.{LastArgument, MoreArguments}
-use Rattle.rb_grammar.specs.Grammar.DerivesBrackets.{EmptyBrackets, Brackets}
-use Rattle.rb_grammar.specs.Grammar.DerivesBlock.{Braces, DoEnd}
-use Rattle.rb_grammar.specs.Grammar.DerivesDo.{NoDo, SomeDo}
+use Rattle.rb_rules.specs.Tokens.{Is, IsIdentifier}
+use Rattle.rb_rules.specs.Spans.{last_of}
+use Rattle.rb_rules.specs.Forms.{Inside, AreOrdered, HasNoBlock, AreDistinct, names_of}
+use Rattle.rb_rules.specs.Grammar.{Gap, DerivesEnd, BarNames, Bars, DerivesBody, DerivesArgument, DerivesArguments, DerivesBrackets, DerivesBlock, DerivesDo, named as placed}
+use Rattle.rb_rules.specs.Grammar.GapIn.{Tight, Loose}
+use Rattle.rb_rules.specs.Grammar.BarNames.{LastBar, MoreBars}
+use Rattle.rb_rules.specs.Grammar.Bars.{NoBars, SomeBars}
+use Rattle.rb_rules.specs.Grammar.DerivesArgument.{ByPlace, ByName, AsBlock}
+use Rattle.rb_rules.specs.Grammar.DerivesArguments.{LastArgument, MoreArguments}
+use Rattle.rb_rules.specs.Grammar.DerivesBrackets.{EmptyBrackets, Brackets}
+use Rattle.rb_rules.specs.Grammar.DerivesBlock.{Braces, DoEnd}
+use Rattle.rb_rules.specs.Grammar.DerivesDo.{NoDo, SomeDo}
 use Rattle.rb_grammar.proofs.Steps.{same, seen, within-more, within-token, label, identifier}
 use Rattle.rb_grammar.proofs.Lists.{and-left, and-right, Allowed, Ordered, last-ordered, more-ordered, last-got, Fresh, apart-all, noted-new}
 use Rattle.rb_completion_laws.proofs.Steps.{Rel, Reach, Completes, Stands, Seq, stands-as, seq-stands, reach-as, reach-more, reach-one, reach-token, reach-within, complete-as, complete-then, complete-behind, complete-token, Goes, bind, goes-as, choosing, Plain, plainly, done, refusing, answering, headed-closing, One, new_token, one-stands, expecting, naming, gap, if-seen, Ended, AnyEnd, Closing, stands-end, seq-closing, closingly, Last, last-stands, closing, before-last, before-one, taken, led, out, reach-this}

@@ -3,7 +3,7 @@ use Rattle.std.proofs.Common.{ℕ, zero, suc, true, false, List}
 use Rattle.rb_tree.specs.declared.token.Token.{Token}
 use Rattle.rb_expr.specs.Rules.{statement, longest_body, tern}
 use Rattle.rb_expr.specs.Grammar.{parsed}
-use Rattle.rb_grammar.specs.Forms.{Site, Inside, is_open}
+use Rattle.rb_rules.specs.Forms.{Site, Inside, is_open}
 use Rattle.rb_completion_laws.proofs.Steps.{Plain, refusing}
 use Rattle.rb_completion_laws.proofs.Viable.{Viable, ABody, AStatement, ATerm, body-stands, simple-stands, value-stands, term-stands, level-stands, negated-stands, front-stands}
 use Rattle.rb_completion_laws.proofs.Operators.{prefixed-goes, negated-goes, operation-goes, tern-goes}

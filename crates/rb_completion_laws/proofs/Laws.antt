@@ -9,8 +9,8 @@ use Rattle.rb_expr.specs.declared.ParseEnd.{ParseEnd}
 use Rattle.rb_expr.specs.declared.ParseEnd.TheVariants.{Bad, TooDeep}
 use Rattle.rb_weight.specs.Scans.{first_too_deep}
 use Rattle.rb_decl.specs.Programs.{place_of, program, whole, cut, token_start}
-use Rattle.rb_grammar.specs.Forms.{Top}
-use Rattle.rb_grammar.specs.Grammar.{Begins, DerivesBody}
+use Rattle.rb_rules.specs.Forms.{Top}
+use Rattle.rb_rules.specs.Grammar.{Begins, DerivesBody}
 use Rattle.rb_completion_laws.specs.Laws.{Begun, RefusedFrontsBegin, RefusalsAreEnds, BadFrontsBegin, TermsBegin, StatementsBegin, BodiesBegin}
 use Rattle.rb_completion_laws.proofs.Steps.{Rel, Completes, Plain}
 use Rattle.rb_completion_laws.proofs.Forms.{a-term-goes, a-statement-goes, a-body-goes}

@@ -10,10 +10,10 @@ use Rattle.rb_expr.specs.declared.lists.Order.{Order}
 use Rattle.rb_expr.specs.declared.lists.Order.TheVariants as order
 use Rattle.rb_expr.specs.Reading.{Outcome, sees, skip_separators}
 use Rattle.rb_expr.specs.Lists.{is_block, takes_comma, closed, behind_comma, behind_element, behind_last, behind_argument}
-use Rattle.rb_grammar.specs.Tokens.{Is}
-use Rattle.rb_grammar.specs.Grammar.{Gap}
-use Rattle.rb_grammar.specs.Grammar.Gap.{Closed}
-use Rattle.rb_grammar.specs.Grammar.DerivesEnd.{NoComma, LastComma}
+use Rattle.rb_rules.specs.Tokens.{Is}
+use Rattle.rb_rules.specs.Grammar.{Gap}
+use Rattle.rb_rules.specs.Grammar.Gap.{Closed}
+use Rattle.rb_rules.specs.Grammar.DerivesEnd.{NoComma, LastComma}
 use Rattle.rb_grammar.proofs.Steps.{same}
 use Rattle.rb_grammar.proofs.Lists.{and-left, and-right, gap-more, Ends}
 use Rattle.rb_completion_laws.proofs.Steps.{Rel, Reach, Completes, Stands, Seq, stands-as, reach-more, reach-one, Goes, goes-as, choosing, One, one-stands, gap, Ended, AnyEnd, Closing, closingly, headed-closing, parted-closing, Last, closing, before-last}

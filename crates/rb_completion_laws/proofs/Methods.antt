@@ -19,13 +19,13 @@ use Rattle.rb_expr.specs.Rules.{body, longest_body}
 use Rattle.rb_expr.specs.Statements as statements
 use Rattle.rb_decl.specs.declared.method.Head.{Head}
 use Rattle.rb_decl.specs.Methods.{visibility, visibility_of, operator_text, operator_name, plain_name, method_name, own, method_head, defined, method}
-use Rattle.rb_grammar.specs.Tokens.{IsIdentifier}
-use Rattle.rb_grammar.specs.Forms.{Site, Inside, METHODS}
-use Rattle.rb_grammar.specs.Grammar.{IsRow, VISIBILITIES, MethodName, Owner, DerivesMethod, DerivesDeclaration}
-use Rattle.rb_grammar.specs.Grammar.MethodName.{Plain as PlainName, Writer, Capital, Operator}
-use Rattle.rb_grammar.specs.Grammar.Owner.{Other, Own}
-use Rattle.rb_grammar.specs.Grammar.DerivesMethod.{Def}
-use Rattle.rb_grammar.specs.Grammar.DerivesDeclaration.{Method, VisibleMethod}
+use Rattle.rb_rules.specs.Tokens.{IsIdentifier}
+use Rattle.rb_rules.specs.Forms.{Site, Inside, METHODS}
+use Rattle.rb_rules.specs.Grammar.{IsRow, VISIBILITIES, MethodName, Owner, DerivesMethod, DerivesDeclaration}
+use Rattle.rb_rules.specs.Grammar.MethodName.{Plain as PlainName, Writer, Capital, Operator}
+use Rattle.rb_rules.specs.Grammar.Owner.{Other, Own}
+use Rattle.rb_rules.specs.Grammar.DerivesMethod.{Def}
+use Rattle.rb_rules.specs.Grammar.DerivesDeclaration.{Method, VisibleMethod}
 use Rattle.rb_grammar.proofs.Parameters.{Links}
 use Rattle.rb_completion_laws.proofs.Steps.{Rel, Reach, Completes, Stands, Seq, seq-stands, reach-as, reach-more, reach-this, complete-as, complete-then, complete-behind, Goes, bind, goes-as, choosing, Plain, plainly, seq, done, refusing, answering, headed, One, new_token, one-stands, expecting, if-seen, Perhaps, nothing, something, before-one}
 use Rattle.rb_completion_laws.proofs.Viable.{ABody, body-stands}

@@ -10,10 +10,10 @@ use Rattle.rb_tree.specs.declared.token.TokenKind.TheVariants as kind
 use Rattle.rb_tree.specs.declared.token.Shape.TheVariants as shape
 use Rattle.rb_decl.specs.Names as spec
 use Rattle.rb_decl.specs.Names.{path_from, path, reference, superclass}
-use Rattle.rb_grammar.specs.Tokens.{Is, IsConstant}
-use Rattle.rb_grammar.specs.Grammar.{Path, Superclass}
-use Rattle.rb_grammar.specs.Grammar.Path.{LastName, MoreNames}
-use Rattle.rb_grammar.specs.Grammar.Superclass.{NoSuperclass, Named, NamedFromTop}
+use Rattle.rb_rules.specs.Tokens.{Is, IsConstant}
+use Rattle.rb_rules.specs.Grammar.{Path, Superclass}
+use Rattle.rb_rules.specs.Grammar.Path.{LastName, MoreNames}
+use Rattle.rb_rules.specs.Grammar.Superclass.{NoSuperclass, Named, NamedFromTop}
 use Rattle.rb_grammar.proofs.Steps.{same}
 use Rattle.rb_completion_laws.proofs.Steps.{Rel, Stands, Seq, stands-as, reach-as, reach-this, Plain, plainly, seq, done, refusing, answering, headed, choosing, One, new_token, if-seen, Perhaps, perhaps-stands, nothing, taken}
 

@@ -30,18 +30,18 @@ use Rattle.rb_expr.specs.Lists.{end_with}
 use Rattle.rb_expr.specs.Calls.{optional_brackets, optional_block}
 use Rattle.rb_expr.specs.Operands as spec
 use Rattle.rb_expr.specs.Operands.{number_by, number, touching, signed, unraised, negative, top_constant, word_by, word, call_of, interpolation, pieces_from, pieces, called, yielding, super_call, elements_from, elements, array_from, array, label_pair, arrow_pair, a_pair, pairs_from, pairs, hash_from, hash, parens, primary_by, primary}
-use Rattle.rb_grammar.specs.Tokens.{Is, IsAny, StartsWith, Touches, IsConstant, NUMBERS}
-use Rattle.rb_grammar.specs.Forms.{Inside, LeavesBlock}
-use Rattle.rb_grammar.specs.Grammar.{Gap, IsRow, SIGNS, DerivesBody, DerivesBrackets, DerivesBlock, DerivesBlockBehind, DerivesPieces, DerivesElements, DerivesPairs, DerivesPair}
-use Rattle.rb_grammar.specs.Grammar.DerivesBrackets.{NoBrackets}
-use Rattle.rb_grammar.specs.Grammar.DerivesBlockBehind.{NoBlock, SomeBlock}
-use Rattle.rb_grammar.specs.Grammar.DerivesPieces.{NoPiece, MorePieces}
-use Rattle.rb_grammar.specs.Grammar.DerivesElements.{LastElement, MoreElements}
-use Rattle.rb_grammar.specs.Grammar.DerivesPairs.{LastPair, MorePairs}
-use Rattle.rb_grammar.specs.Grammar.DerivesPair.{ByArrow, ByLabel}
-use Rattle.rb_grammar.specs.Grammar.DerivesTarget.{Variable, Instance, Constant as ConstantTarget}
-use Rattle.rb_grammar.specs.Grammar.DerivesCallee.{Own, YieldWord, SuperWord}
-use Rattle.rb_grammar.specs.Grammar.DerivesPrimary.{WholeNumber, FloatNumber, SignedWhole, SignedFloat, String, SymbolName, InstanceName, ConstantName, FromTop, SelfPlace, NilPlace, TruePlace, FalsePlace, NameAlone, CallWithBrackets, CallWithBlock, Yields, Supers, EmptyArray, SomeArray, EmptyHash, SomeHash, InParens}
+use Rattle.rb_rules.specs.Tokens.{Is, IsAny, StartsWith, Touches, IsConstant, NUMBERS}
+use Rattle.rb_rules.specs.Forms.{Inside, LeavesBlock}
+use Rattle.rb_rules.specs.Grammar.{Gap, IsRow, SIGNS, DerivesBody, DerivesBrackets, DerivesBlock, DerivesBlockBehind, DerivesPieces, DerivesElements, DerivesPairs, DerivesPair}
+use Rattle.rb_rules.specs.Grammar.DerivesBrackets.{NoBrackets}
+use Rattle.rb_rules.specs.Grammar.DerivesBlockBehind.{NoBlock, SomeBlock}
+use Rattle.rb_rules.specs.Grammar.DerivesPieces.{NoPiece, MorePieces}
+use Rattle.rb_rules.specs.Grammar.DerivesElements.{LastElement, MoreElements}
+use Rattle.rb_rules.specs.Grammar.DerivesPairs.{LastPair, MorePairs}
+use Rattle.rb_rules.specs.Grammar.DerivesPair.{ByArrow, ByLabel}
+use Rattle.rb_rules.specs.Grammar.DerivesTarget.{Variable, Instance, Constant as ConstantTarget}
+use Rattle.rb_rules.specs.Grammar.DerivesCallee.{Own, YieldWord, SuperWord}
+use Rattle.rb_rules.specs.Grammar.DerivesPrimary.{WholeNumber, FloatNumber, SignedWhole, SignedFloat, String, SymbolName, InstanceName, ConstantName, FromTop, SelfPlace, NilPlace, TruePlace, FalsePlace, NameAlone, CallWithBrackets, CallWithBlock, Yields, Supers, EmptyArray, SomeArray, EmptyHash, SomeHash, InParens}
 use Rattle.rb_grammar.proofs.Steps.{same, shown, Within, within-self, within-token, within-more, identifier, constant, instance_variable, label, symbol, whole, float, text}
 use Rattle.rb_grammar.proofs.Lists.{and-left, and-right}
 use Rattle.rb_completion_laws.proofs.Steps.{Rel, This, Fits, Reach, Completes, Stands, Seq, stands-as, seq-stands, reach-as, reach-more, reach-this, reach-self, reach-token, reach-within, reach-fits, complete-as, complete-then, complete-behind, complete-new, complete-token, complete-fits, Goes, bind, goes-as, choosing, Plain, plainly, seq, refusing, answering, headed-closing, One, one-stands, expecting, naming, Ended, AnyEnd, Closing, stands-end, seq-closing, closingly, parted-closing, Last, last-stands, closing, before-last, before-one, led, out, worded-known, named-known, follow-words, follow-name, caught, fits-start, fits-before}

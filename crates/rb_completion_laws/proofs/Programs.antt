@@ -13,11 +13,11 @@ use Rattle.rb_decl.specs.Items.{what_opens, class_head, module_head, namespace_h
 use Rattle.rb_decl.specs.Items as spec
 use Rattle.rb_decl.specs.Methods.{method}
 use Rattle.rb_decl.specs.Programs.{program}
-use Rattle.rb_grammar.specs.Tokens.{Is}
-use Rattle.rb_grammar.specs.Forms.{Site, Top, Member, is_top, is_open}
-use Rattle.rb_grammar.specs.Grammar.{DerivesBody, DerivesDeclaration}
-use Rattle.rb_grammar.specs.Grammar.DerivesStatement.{Declared as DeclaredStatement}
-use Rattle.rb_grammar.specs.Grammar.DerivesDeclaration.{ClassOf, ModuleOf}
+use Rattle.rb_rules.specs.Tokens.{Is}
+use Rattle.rb_rules.specs.Forms.{Site, Top, Member, is_top, is_open}
+use Rattle.rb_rules.specs.Grammar.{DerivesBody, DerivesDeclaration}
+use Rattle.rb_rules.specs.Grammar.DerivesStatement.{Declared as DeclaredStatement}
+use Rattle.rb_rules.specs.Grammar.DerivesDeclaration.{ClassOf, ModuleOf}
 use Rattle.rb_completion_laws.proofs.Steps.{Rel, Completes, Stands, Seq, seq-stands, complete-reach, Goes, Plain, plainly, seq, done, refusing, answering, choosing, parted, One, one-stands, expecting, perhaps-stands, before-one}
 use Rattle.rb_completion_laws.proofs.Viable.{ABody, AStatement, body-stands, statement-stands}
 use Rattle.rb_completion_laws.proofs.Branches.{separator-stands, end-stands}

@@ -19,15 +19,15 @@ use Rattle.rb_expr.specs.Reading.{Outcome, Parser, peek, skip_separators}
 use Rattle.rb_expr.specs.Shapes.{begins_value, has_value, has_prefix, begins_statement, jump_of, modifier_of, assigning_of}
 use Rattle.rb_expr.specs.Statements as spec
 use Rattle.rb_expr.specs.Statements.{ending_of, is_target, is_plain_target, is_callee, begin_arguments, other_follower, operator_follower, follower_by, follower_of, assigned, operator_assigned, command, followed_by, followed, from_operand, jump_value, simple_by, simple, modified, modifiers_by, modifiers_from, modifiers, statement, body_start, body_from, statements}
-use Rattle.rb_grammar.specs.Tokens.{Is, IsOneOf, StartsWith}
-use Rattle.rb_grammar.specs.Forms.{Site, is_open, ASSIGNMENTS, MODIFIERS, NO_COMMAND}
-use Rattle.rb_grammar.specs.Grammar.{IsRow, MODIFIER_WORDS, JUMP_WORDS, DerivesModified}
-use Rattle.rb_grammar.specs.Grammar.DerivesStatement.{Simply}
-use Rattle.rb_grammar.specs.Grammar.DerivesModified.{Unmodified, Modified}
-use Rattle.rb_grammar.specs.Grammar.DerivesSimple.{Valued, Jumps, JumpsWith}
-use Rattle.rb_grammar.specs.Grammar.DerivesValue.{Term, Assigns, Computes, Command}
-use Rattle.rb_grammar.specs.Grammar.DerivesDo.{NoDo}
-use Rattle.rb_grammar.specs.Grammar.DerivesLevel.{Plainly}
+use Rattle.rb_rules.specs.Tokens.{Is, IsOneOf, StartsWith}
+use Rattle.rb_rules.specs.Forms.{Site, is_open, ASSIGNMENTS, MODIFIERS, NO_COMMAND}
+use Rattle.rb_rules.specs.Grammar.{IsRow, MODIFIER_WORDS, JUMP_WORDS, DerivesModified}
+use Rattle.rb_rules.specs.Grammar.DerivesStatement.{Simply}
+use Rattle.rb_rules.specs.Grammar.DerivesModified.{Unmodified, Modified}
+use Rattle.rb_rules.specs.Grammar.DerivesSimple.{Valued, Jumps, JumpsWith}
+use Rattle.rb_rules.specs.Grammar.DerivesValue.{Term, Assigns, Computes, Command}
+use Rattle.rb_rules.specs.Grammar.DerivesDo.{NoDo}
+use Rattle.rb_rules.specs.Grammar.DerivesLevel.{Plainly}
 use Rattle.rb_grammar.proofs.Lists.{and-left, and-right}
 use Rattle.rb_completion_laws.proofs.Steps.{Rel, This, Fits, Reach, Stands, Seq, reach-as, reach-more, reach-this, reach-fits, complete-as, complete-behind, complete-fits, bind, goes-as, choosing, Plain, plainly, seq, done, refusing, answering, headed, parted, One, one-stands, expecting, Perhaps, perhaps-stands, nothing, fits-start}
 use Rattle.rb_completion_laws.proofs.Viable.{Viable, ABody, AStatement, ASimple, AValue, ATarget, ACallee, Uses, negated-term, value-stands}

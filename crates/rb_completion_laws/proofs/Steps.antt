@@ -9,9 +9,9 @@ use Rattle.rb_tree.specs.declared.token.TokenKind.{TokenKind}
 use Rattle.rb_tree.specs.declared.token.Shape.{Shape}
 use Rattle.rb_tree.specs.declared.token.Shape.TheVariants as shape
 use Rattle.rb_expr.specs.Reading.{Outcome, Parser, and_then, sees, after, words_of, expect, named, worded, skip_separators}
-use Rattle.rb_grammar.specs.Tokens.{Is, IsOneOf, StartsWith, IsBeforeNumber, NUMBERS}
-use Rattle.rb_grammar.specs.Grammar.{Gap}
-use Rattle.rb_grammar.specs.Grammar.Gap.{Closed, Wide}
+use Rattle.rb_rules.specs.Tokens.{Is, IsOneOf, StartsWith, IsBeforeNumber, NUMBERS}
+use Rattle.rb_rules.specs.Grammar.{Gap}
+use Rattle.rb_rules.specs.Grammar.Gap.{Closed, Wide}
 use Rattle.rb_grammar.proofs.Steps.{same, shown, Within, within-self, within-token, within-more}
 use Rattle.rb_completion_laws.specs.Behind.{joins, Clear}
 

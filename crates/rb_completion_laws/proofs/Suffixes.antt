@@ -23,16 +23,16 @@ use Rattle.rb_expr.specs.Operands.{post_of, call_suffix, constant_suffix, index_
 use Rattle.rb_expr.specs.Reading.{Outcome, Parser, touches, words_of}
 use Rattle.rb_expr.specs.Shapes.{closes, is_index, is_index_after}
 use Rattle.rb_expr.specs.Statements.{ending_of, ending_of_suffix, ending_of_last}
-use Rattle.rb_grammar.specs.Tokens.{Is, IsAny, IsOneOf, IsIdentifier, IsConstant, Touches}
-use Rattle.rb_grammar.specs.Grammar.{DOTS, IsRow, DerivesSuffix, DerivesIndex}
-use Rattle.rb_grammar.specs.Grammar.DerivesBrackets.{NoBrackets}
-use Rattle.rb_grammar.specs.Grammar.DerivesBlockBehind.{NoBlock}
-use Rattle.rb_grammar.specs.Grammar.DerivesOperand.{Bare, Suffixed}
-use Rattle.rb_grammar.specs.Grammar.DerivesSuffix.{Calls, Within as Inner, Indexed}
-use Rattle.rb_grammar.specs.Grammar.DerivesIndex.{Index}
-use Rattle.rb_grammar.specs.Grammar.DerivesTarget.{Attribute, Element}
-use Rattle.rb_grammar.specs.Grammar.DerivesCallee.{Of}
-use Rattle.rb_grammar.specs.Grammar.DerivesPrefixed.{Posted}
+use Rattle.rb_rules.specs.Tokens.{Is, IsAny, IsOneOf, IsIdentifier, IsConstant, Touches}
+use Rattle.rb_rules.specs.Grammar.{DOTS, IsRow, DerivesSuffix, DerivesIndex}
+use Rattle.rb_rules.specs.Grammar.DerivesBrackets.{NoBrackets}
+use Rattle.rb_rules.specs.Grammar.DerivesBlockBehind.{NoBlock}
+use Rattle.rb_rules.specs.Grammar.DerivesOperand.{Bare, Suffixed}
+use Rattle.rb_rules.specs.Grammar.DerivesSuffix.{Calls, Within as Inner, Indexed}
+use Rattle.rb_rules.specs.Grammar.DerivesIndex.{Index}
+use Rattle.rb_rules.specs.Grammar.DerivesTarget.{Attribute, Element}
+use Rattle.rb_rules.specs.Grammar.DerivesCallee.{Of}
+use Rattle.rb_rules.specs.Grammar.DerivesPrefixed.{Posted}
 use Rattle.rb_grammar.proofs.Steps.{Within, within-token, within-more, identifier, constant}
 use Rattle.rb_completion_laws.proofs.Steps.{Rel, This, Reach, Completes, Seq, reach-as, reach-more, reach-this, reach-token, reach-within, complete-as, complete-behind, complete-new, complete-token, complete-reach, Goes, bind, goes-as, choosing, Ended, AnyEnd, follow-name, out}
 use Rattle.rb_completion_laws.proofs.Viable.{Viable, AnOperand, AFront, Signs, Uses, ends-so, name-stands}

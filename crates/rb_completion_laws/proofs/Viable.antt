@@ -14,20 +14,20 @@ use Rattle.rb_expr.specs.Reading.{Parser}
 use Rattle.rb_expr.specs.Statements.{ending_of, ending_at}
 use Rattle.rb_expr.specs.declared.ending.Ending.{Ending}
 use Rattle.rb_expr.specs.declared.ending.Ending.TheVariants as ending
-use Rattle.rb_grammar.specs.Tokens.{Is, IsBeforeNumber, IsRaised}
-use Rattle.rb_grammar.specs.Forms.{Site, Inside}
-use Rattle.rb_grammar.specs.Grammar.{DerivesBody, DerivesStatement, DerivesSimple, DerivesValue, DerivesTerm, DerivesLevel, DerivesPrefixed, DerivesOperand, DerivesPrimary, DerivesTarget, DerivesCallee}
-use Rattle.rb_grammar.specs.Grammar.Gap.{Closed}
-use Rattle.rb_grammar.specs.Grammar.DerivesBody.{NoStatement}
-use Rattle.rb_grammar.specs.Grammar.DerivesSimple.{Valued}
-use Rattle.rb_grammar.specs.Grammar.DerivesStatement.{Simply}
-use Rattle.rb_grammar.specs.Grammar.DerivesModified.{Unmodified}
-use Rattle.rb_grammar.specs.Grammar.DerivesValue.{Term}
-use Rattle.rb_grammar.specs.Grammar.DerivesTerm.{Operated}
-use Rattle.rb_grammar.specs.Grammar.DerivesLevel.{Tighter, Plainly, Negated}
-use Rattle.rb_grammar.specs.Grammar.DerivesPrefixed.{Posted}
-use Rattle.rb_grammar.specs.Grammar.DerivesOperand.{Bare}
-use Rattle.rb_grammar.specs.Grammar.DerivesPrimary.{NameAlone}
+use Rattle.rb_rules.specs.Tokens.{Is, IsBeforeNumber, IsRaised}
+use Rattle.rb_rules.specs.Forms.{Site, Inside}
+use Rattle.rb_rules.specs.Grammar.{DerivesBody, DerivesStatement, DerivesSimple, DerivesValue, DerivesTerm, DerivesLevel, DerivesPrefixed, DerivesOperand, DerivesPrimary, DerivesTarget, DerivesCallee}
+use Rattle.rb_rules.specs.Grammar.Gap.{Closed}
+use Rattle.rb_rules.specs.Grammar.DerivesBody.{NoStatement}
+use Rattle.rb_rules.specs.Grammar.DerivesSimple.{Valued}
+use Rattle.rb_rules.specs.Grammar.DerivesStatement.{Simply}
+use Rattle.rb_rules.specs.Grammar.DerivesModified.{Unmodified}
+use Rattle.rb_rules.specs.Grammar.DerivesValue.{Term}
+use Rattle.rb_rules.specs.Grammar.DerivesTerm.{Operated}
+use Rattle.rb_rules.specs.Grammar.DerivesLevel.{Tighter, Plainly, Negated}
+use Rattle.rb_rules.specs.Grammar.DerivesPrefixed.{Posted}
+use Rattle.rb_rules.specs.Grammar.DerivesOperand.{Bare}
+use Rattle.rb_rules.specs.Grammar.DerivesPrimary.{NameAlone}
 use Rattle.rb_completion_laws.proofs.Steps.{Rel, Stands, stands-as, Plain, One, new_token, one-stands}
 
 -- ---- with some tree

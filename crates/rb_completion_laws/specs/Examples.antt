@@ -4,7 +4,7 @@ use Rattle.rb_tree.specs.declared.token.Token.{Token}
 use Rattle.rb_tree.specs.declared.token.TokenKind.{TokenKind}
 use Rattle.rb_tree.specs.declared.token.TokenKind.TheVariants as kind
 use Rattle.rb_decl.specs.Programs.{program}
-use Rattle.rb_grammar.specs.Grammar.{Begins}
+use Rattle.rb_rules.specs.Grammar.{Begins}
 
 -- With the second list behind the first, the second is refused. The first begins a program.
 abbrev pub RefusedAt : List Token → List Token → Type 0

@@ -5,8 +5,8 @@ use Rattle.rb_tree.specs.declared.token.Token.{Token}
 use Rattle.rb_expr.specs.declared.ParseEnd.TheVariants.{Bad}
 use Rattle.rb_expr.specs.Rules.{statement, longest_body, tern}
 use Rattle.rb_decl.specs.Programs.{place_of, program, parsed}
-use Rattle.rb_grammar.specs.Forms.{Site, is_open}
-use Rattle.rb_grammar.specs.Grammar.{Begins, DerivesBody, DerivesStatement, DerivesTerm}
+use Rattle.rb_rules.specs.Forms.{Site, is_open}
+use Rattle.rb_rules.specs.Grammar.{Begins, DerivesBody, DerivesStatement, DerivesTerm}
 use Rattle.rb_completion_laws.specs.Behind.{Clear}
 
 -- ---- programs

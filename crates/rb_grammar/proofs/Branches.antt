@@ -13,16 +13,16 @@ use Rattle.rb_tree.specs.declared.token.Shape.TheVariants as shape
 use Rattle.rb_expr.specs.declared.form.Form.{Form}
 use Rattle.rb_expr.specs.Reading.{Parser, after, skip_separators}
 use Rattle.rb_expr.specs.Branches.{after_then, then_word, do_word, otherwise, elsif_arm, elsif_arms_from, elsif_arms, arms_of, branch, repeated, subject, patterns_from, patterns, when_arm, when_arms_from, when_arms, choice}
-use Rattle.rb_grammar.specs.Tokens.{Is, IsAny}
-use Rattle.rb_grammar.specs.Forms.{Inside}
-use Rattle.rb_grammar.specs.Grammar.{Then, IsRow, BRANCH_WORDS, LOOP_WORDS, DerivesBody, DerivesSimple, DerivesTerm, DerivesArms, DerivesElse, DerivesSubject, DerivesWhens, DerivesPatterns, DerivesPrimary}
-use Rattle.rb_grammar.specs.Grammar.Then.{Word, Line, LineWord}
-use Rattle.rb_grammar.specs.Grammar.DerivesArms.{NoArm, MoreArms}
-use Rattle.rb_grammar.specs.Grammar.DerivesElse.{NoElse, SomeElse}
-use Rattle.rb_grammar.specs.Grammar.DerivesSubject.{NoSubject, SomeSubject}
-use Rattle.rb_grammar.specs.Grammar.DerivesWhens.{NoWhen, MoreWhens}
-use Rattle.rb_grammar.specs.Grammar.DerivesPatterns.{LastPattern, MorePatterns}
-use Rattle.rb_grammar.specs.Grammar.DerivesPrimary.{Branches, Loops, Cases}
+use Rattle.rb_rules.specs.Tokens.{Is, IsAny}
+use Rattle.rb_rules.specs.Forms.{Inside}
+use Rattle.rb_rules.specs.Grammar.{Then, IsRow, BRANCH_WORDS, LOOP_WORDS, DerivesBody, DerivesSimple, DerivesTerm, DerivesArms, DerivesElse, DerivesSubject, DerivesWhens, DerivesPatterns, DerivesPrimary}
+use Rattle.rb_rules.specs.Grammar.Then.{Word, Line, LineWord}
+use Rattle.rb_rules.specs.Grammar.DerivesArms.{NoArm, MoreArms}
+use Rattle.rb_rules.specs.Grammar.DerivesElse.{NoElse, SomeElse}
+use Rattle.rb_rules.specs.Grammar.DerivesSubject.{NoSubject, SomeSubject}
+use Rattle.rb_rules.specs.Grammar.DerivesWhens.{NoWhen, MoreWhens}
+use Rattle.rb_rules.specs.Grammar.DerivesPatterns.{LastPattern, MorePatterns}
+use Rattle.rb_rules.specs.Grammar.DerivesPrimary.{Branches, Loops, Cases}
 use Rattle.rb_grammar.proofs.Steps.{Holds, answered, refused, step, weaker, choose, same, taking, took, follow, testing, seen, Within, within-self, within-token, within-more, gap}
 use Rattle.rb_grammar.proofs.Sound.{Sound, Primary, starts, used}
 

@@ -8,25 +8,25 @@ use Rattle.rb_tree.specs.declared.syntax.Argument.TheVariants as argument
 use Rattle.rb_tree.specs.declared.syntax.Dot.TheVariants as dot
 use Rattle.rb_tree.specs.declared.token.Token.{Token}
 use denote.Hole.Carrier as carrier
-use Rattle.rb_grammar.specs.Forms.{Top}
-use Rattle.rb_grammar.specs.Grammar.{DerivesPrefixed, DerivesTerm}
-use Rattle.rb_grammar.specs.Grammar.Gap.{Closed}
-use Rattle.rb_grammar.specs.Grammar.DerivesBody.{Statements}
-use Rattle.rb_grammar.specs.Grammar.DerivesMore.{NoMore}
-use Rattle.rb_grammar.specs.Grammar.DerivesStatement.{Simply}
-use Rattle.rb_grammar.specs.Grammar.DerivesModified.{Unmodified}
-use Rattle.rb_grammar.specs.Grammar.DerivesSimple.{Valued}
-use Rattle.rb_grammar.specs.Grammar.DerivesValue.{Term}
-use Rattle.rb_grammar.specs.Grammar.DerivesArguments.{LastArgument}
-use Rattle.rb_grammar.specs.Grammar.DerivesArgument.{ByPlace}
-use Rattle.rb_grammar.specs.Grammar.DerivesTerm.{Operated}
-use Rattle.rb_grammar.specs.Grammar.DerivesLevel.{Tighter, Plainly}
-use Rattle.rb_grammar.specs.Grammar.DerivesPrefixed.{Posted}
-use Rattle.rb_grammar.specs.Grammar.DerivesOperand.{Bare, Suffixed}
-use Rattle.rb_grammar.specs.Grammar.DerivesSuffix.{Calls}
-use Rattle.rb_grammar.specs.Grammar.DerivesBrackets.{Brackets}
-use Rattle.rb_grammar.specs.Grammar.DerivesBlockBehind.{NoBlock}
-use Rattle.rb_grammar.specs.Grammar.DerivesPrimary.{WholeNumber, NameAlone}
+use Rattle.rb_rules.specs.Forms.{Top}
+use Rattle.rb_rules.specs.Grammar.{DerivesPrefixed, DerivesTerm}
+use Rattle.rb_rules.specs.Grammar.Gap.{Closed}
+use Rattle.rb_rules.specs.Grammar.DerivesBody.{Statements}
+use Rattle.rb_rules.specs.Grammar.DerivesMore.{NoMore}
+use Rattle.rb_rules.specs.Grammar.DerivesStatement.{Simply}
+use Rattle.rb_rules.specs.Grammar.DerivesModified.{Unmodified}
+use Rattle.rb_rules.specs.Grammar.DerivesSimple.{Valued}
+use Rattle.rb_rules.specs.Grammar.DerivesValue.{Term}
+use Rattle.rb_rules.specs.Grammar.DerivesArguments.{LastArgument}
+use Rattle.rb_rules.specs.Grammar.DerivesArgument.{ByPlace}
+use Rattle.rb_rules.specs.Grammar.DerivesTerm.{Operated}
+use Rattle.rb_rules.specs.Grammar.DerivesLevel.{Tighter, Plainly}
+use Rattle.rb_rules.specs.Grammar.DerivesPrefixed.{Posted}
+use Rattle.rb_rules.specs.Grammar.DerivesOperand.{Bare, Suffixed}
+use Rattle.rb_rules.specs.Grammar.DerivesSuffix.{Calls}
+use Rattle.rb_rules.specs.Grammar.DerivesBrackets.{Brackets}
+use Rattle.rb_rules.specs.Grammar.DerivesBlockBehind.{NoBlock}
+use Rattle.rb_rules.specs.Grammar.DerivesPrimary.{WholeNumber, NameAlone}
 use Rattle.rb_grammar.specs.Examples.{digit, CALL, CallDerives}
 
 -- an operand with its prefixes is a term

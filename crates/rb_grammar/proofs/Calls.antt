@@ -16,18 +16,18 @@ use Rattle.rb_expr.specs.Reading.{Parser, sees, after, skip_separators, refuse}
 use Rattle.rb_expr.specs.Lists.{order_of, is_keyword, is_block, passes_block, takes_comma, goes_on, end_with, end_of_argument, noted}
 use Rattle.rb_expr.specs.Calls as spec
 use Rattle.rb_expr.specs.Calls.{keyword, passed_block, positional, argument_by, listed_from, listed, in_brackets, brackets, index_arguments, optional_brackets, bare_from, bare, bar_names_from, bar_names, bars, block, optional_do, any_block, optional_block, command_block}
-use Rattle.rb_grammar.specs.Tokens.{Is}
-use Rattle.rb_grammar.specs.Spans.{across, last_of}
-use Rattle.rb_grammar.specs.Forms.{Inside, AreOrdered, HasNoBlock, LeavesBlock, AreDistinct, names_of}
-use Rattle.rb_grammar.specs.Grammar.{Gap, DerivesEnd, BarNames, Bars, DerivesBody, DerivesArgument, DerivesArguments, DerivesBrackets, DerivesBlock, DerivesBlockBehind, DerivesDo}
-use Rattle.rb_grammar.specs.Grammar.GapIn.{Tight, Loose}
-use Rattle.rb_grammar.specs.Grammar.Bars.{NoBars, SomeBars}
-use Rattle.rb_grammar.specs.Grammar.DerivesArgument.{ByPlace, ByName, AsBlock}
-use Rattle.rb_grammar.specs.Grammar.DerivesArguments.{LastArgument, MoreArguments}
-use Rattle.rb_grammar.specs.Grammar.DerivesBrackets.{NoBrackets, EmptyBrackets, Brackets}
-use Rattle.rb_grammar.specs.Grammar.DerivesBlock.{Braces, DoEnd}
-use Rattle.rb_grammar.specs.Grammar.DerivesBlockBehind.{NoBlock, SomeBlock}
-use Rattle.rb_grammar.specs.Grammar.DerivesDo.{NoDo, SomeDo}
+use Rattle.rb_rules.specs.Tokens.{Is}
+use Rattle.rb_rules.specs.Spans.{across, last_of}
+use Rattle.rb_rules.specs.Forms.{Inside, AreOrdered, HasNoBlock, LeavesBlock, AreDistinct, names_of}
+use Rattle.rb_rules.specs.Grammar.{Gap, DerivesEnd, BarNames, Bars, DerivesBody, DerivesArgument, DerivesArguments, DerivesBrackets, DerivesBlock, DerivesBlockBehind, DerivesDo}
+use Rattle.rb_rules.specs.Grammar.GapIn.{Tight, Loose}
+use Rattle.rb_rules.specs.Grammar.Bars.{NoBars, SomeBars}
+use Rattle.rb_rules.specs.Grammar.DerivesArgument.{ByPlace, ByName, AsBlock}
+use Rattle.rb_rules.specs.Grammar.DerivesArguments.{LastArgument, MoreArguments}
+use Rattle.rb_rules.specs.Grammar.DerivesBrackets.{NoBrackets, EmptyBrackets, Brackets}
+use Rattle.rb_rules.specs.Grammar.DerivesBlock.{Braces, DoEnd}
+use Rattle.rb_rules.specs.Grammar.DerivesBlockBehind.{NoBlock, SomeBlock}
+use Rattle.rb_rules.specs.Grammar.DerivesDo.{NoDo, SomeDo}
 use Rattle.rb_grammar.proofs.Steps.{Holds, answered, refused, step, weaker, choose, same, taking, naming, follow, testing, seen, Within, within-self, within-token, within-more, gap, label}
 use Rattle.rb_grammar.proofs.Sound.{Sound}
 use Rattle.rb_grammar.proofs.Lists.{and-left, and-right, Ends, behind-argument-holds, Allowed, Ordered, last-ordered, more-ordered, no-block, Fresh, apart-all, noted-new, name-holds}

@@ -5,8 +5,8 @@ use Rattle.rb_expr.specs.declared.form.Form.TheVariants as form
 use Rattle.rb_expr.specs.Reading.{Outcome}
 use Rattle.rb_expr.specs.Rules.{statement, longest_body, tern}
 use Rattle.rb_expr.specs.Grammar.{parsed}
-use Rattle.rb_grammar.specs.Forms.{Site, Inside, is_open}
-use Rattle.rb_grammar.specs.Grammar.{DerivesBody, DerivesStatement, DerivesSimple, DerivesValue, DerivesTerm, DerivesLevel, DerivesPrefixed}
+use Rattle.rb_rules.specs.Forms.{Site, Inside, is_open}
+use Rattle.rb_rules.specs.Grammar.{DerivesBody, DerivesStatement, DerivesSimple, DerivesValue, DerivesTerm, DerivesLevel, DerivesPrefixed}
 use Rattle.rb_grammar.specs.Laws.{FormsDerive, TermsDerive, StatementsDerive, BodiesDerive}
 use Rattle.rb_grammar.proofs.Steps.{Holds, refused, Within}
 use Rattle.rb_grammar.proofs.Sound.{Sound, Starts}

@@ -13,13 +13,13 @@ use Rattle.rb_expr.specs.declared.lists.Order.{Order}
 use Rattle.rb_expr.specs.declared.lists.Order.TheVariants as order
 use Rattle.rb_expr.specs.Reading.{after, skip_separators, words_of}
 use Rattle.rb_expr.specs.Lists.{order_of, is_keyword, is_block, is_some_block, passes_block, takes_comma, closed, behind_comma, behind_element, behind_last, behind_argument, is_among, noted, fresh_name}
-use Rattle.rb_grammar.specs.Tokens.{Is}
-use Rattle.rb_grammar.specs.Spans.{last_of}
-use Rattle.rb_grammar.specs.Forms.{AreOrdered, AreNamed, HasNoBlock, IsNot, names_of}
-use Rattle.rb_grammar.specs.Grammar.{Gap, DerivesEnd, BarNames}
-use Rattle.rb_grammar.specs.Grammar.Gap.{Closed, Wide}
-use Rattle.rb_grammar.specs.Grammar.DerivesEnd.{NoComma, LastComma}
-use Rattle.rb_grammar.specs.Grammar.BarNames.{LastBar, MoreBars}
+use Rattle.rb_rules.specs.Tokens.{Is}
+use Rattle.rb_rules.specs.Spans.{last_of}
+use Rattle.rb_rules.specs.Forms.{AreOrdered, AreNamed, HasNoBlock, IsNot, names_of}
+use Rattle.rb_rules.specs.Grammar.{Gap, DerivesEnd, BarNames}
+use Rattle.rb_rules.specs.Grammar.Gap.{Closed, Wide}
+use Rattle.rb_rules.specs.Grammar.DerivesEnd.{NoComma, LastComma}
+use Rattle.rb_rules.specs.Grammar.BarNames.{LastBar, MoreBars}
 use Rattle.rb_grammar.proofs.Steps.{Holds, answered, refused, weaker, choose, choosing, naming, follow, testing, seen, Within, within-self, within-token, within-more, gap, identifier}
 
 pub and-left : (a b : Bool) → (a && b) ≡ true → a ≡ true

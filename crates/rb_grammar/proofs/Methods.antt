@@ -19,14 +19,14 @@ use Rattle.rb_expr.specs.Rules.{body, longest_body}
 use Rattle.rb_expr.specs.Statements as statements
 use Rattle.rb_decl.specs.declared.method.Head.{Head}
 use Rattle.rb_decl.specs.Methods.{visibility_of, visibility, operator_text, operator_name, plain_name, method_name, own, method_head, tree_of, defined, method}
-use Rattle.rb_grammar.specs.Tokens.{Is, IsIdentifier}
-use Rattle.rb_grammar.specs.Spans.{across}
-use Rattle.rb_grammar.specs.Forms.{Site, Inside, METHODS}
-use Rattle.rb_grammar.specs.Grammar.{IsRow, VISIBILITIES, front_span, MethodName, Owner, DerivesBody, DerivesDeclaration, DerivesMethod}
-use Rattle.rb_grammar.specs.Grammar.MethodName.{Plain, Writer, Capital, Operator}
-use Rattle.rb_grammar.specs.Grammar.Owner.{Other, Own}
-use Rattle.rb_grammar.specs.Grammar.DerivesMethod.{Def}
-use Rattle.rb_grammar.specs.Grammar.DerivesDeclaration.{Method, VisibleMethod}
+use Rattle.rb_rules.specs.Tokens.{Is, IsIdentifier}
+use Rattle.rb_rules.specs.Spans.{across}
+use Rattle.rb_rules.specs.Forms.{Site, Inside, METHODS}
+use Rattle.rb_rules.specs.Grammar.{IsRow, VISIBILITIES, front_span, MethodName, Owner, DerivesBody, DerivesDeclaration, DerivesMethod}
+use Rattle.rb_rules.specs.Grammar.MethodName.{Plain, Writer, Capital, Operator}
+use Rattle.rb_rules.specs.Grammar.Owner.{Other, Own}
+use Rattle.rb_rules.specs.Grammar.DerivesMethod.{Def}
+use Rattle.rb_rules.specs.Grammar.DerivesDeclaration.{Method, VisibleMethod}
 use Rattle.rb_grammar.proofs.Steps.{Holds, answered, refused, step, weaker, choosing, taking, taking-this, follow, testing, Within, within-self, within-token, within-more}
 use Rattle.rb_grammar.proofs.Forms.{a-body-holds}
 use Rattle.rb_grammar.proofs.Parameters.{Links, parameters-holds}

@@ -10,11 +10,11 @@ use Rattle.rb_tree.specs.declared.token.Shape.TheVariants as shape
 use Rattle.rb_expr.specs.Reading.{sees, after}
 use Rattle.rb_decl.specs.Names as spec
 use Rattle.rb_decl.specs.Names.{goes_on, path_from, path, start_at, end_at, end_of, short_reference, top_reference, reference, superclass}
-use Rattle.rb_grammar.specs.Tokens.{Is, IsConstant}
-use Rattle.rb_grammar.specs.Spans.{last_of}
-use Rattle.rb_grammar.specs.Grammar.{Path, Superclass}
-use Rattle.rb_grammar.specs.Grammar.Path.{LastName, MoreNames}
-use Rattle.rb_grammar.specs.Grammar.Superclass.{NoSuperclass, Named, NamedFromTop}
+use Rattle.rb_rules.specs.Tokens.{Is, IsConstant}
+use Rattle.rb_rules.specs.Spans.{last_of}
+use Rattle.rb_rules.specs.Grammar.{Path, Superclass}
+use Rattle.rb_rules.specs.Grammar.Path.{LastName, MoreNames}
+use Rattle.rb_rules.specs.Grammar.Superclass.{NoSuperclass, Named, NamedFromTop}
 use Rattle.rb_grammar.proofs.Steps.{Holds, answered, refused, step, weaker, choosing, taking, testing, seen, Within, within-self, within-token, within-more}
 use Rattle.rb_grammar.proofs.Lists.{and-left, and-right, last-got}
 

@@ -22,18 +22,18 @@ use Rattle.rb_expr.specs.Reading.{Parser, start_of, sees, skip_separators, touch
 use Rattle.rb_expr.specs.Shapes.{is_signed}
 use Rattle.rb_expr.specs.Operands as spec
 use Rattle.rb_expr.specs.Operands.{number_by, number, touching, signed, unraised, negative, top_constant, word_by, word, call_of, interpolation, pieces_from, pieces, called, yielding, super_call, elements_from, elements, array_from, array, label_pair, arrow_pair, a_pair, pairs_from, pairs, hash_from, hash, parens, primary_by, primary}
-use Rattle.rb_grammar.specs.Tokens.{Is, StartsWith, Touches, IsWhole, IsFloat, IsText}
-use Rattle.rb_grammar.specs.Spans.{across}
-use Rattle.rb_grammar.specs.Forms.{Inside}
-use Rattle.rb_grammar.specs.Grammar.{Gap, IsRow, SIGNS, DerivesEnd, DerivesBody, DerivesTerm, DerivesBlock, DerivesPieces, DerivesElements, DerivesPairs, DerivesPair}
-use Rattle.rb_grammar.specs.Grammar.DerivesBrackets.{NoBrackets}
-use Rattle.rb_grammar.specs.Grammar.DerivesPieces.{NoPiece, MorePieces}
-use Rattle.rb_grammar.specs.Grammar.DerivesElements.{LastElement, MoreElements}
-use Rattle.rb_grammar.specs.Grammar.DerivesPairs.{LastPair, MorePairs}
-use Rattle.rb_grammar.specs.Grammar.DerivesPair.{ByArrow, ByLabel}
-use Rattle.rb_grammar.specs.Grammar.DerivesTarget.{Variable, Instance, Constant as ConstantTarget}
-use Rattle.rb_grammar.specs.Grammar.DerivesCallee.{Own, YieldWord, SuperWord}
-use Rattle.rb_grammar.specs.Grammar.DerivesPrimary.{WholeNumber, FloatNumber, SignedWhole, SignedFloat, String, SymbolName, InstanceName, ConstantName, FromTop, SelfPlace, NilPlace, TruePlace, FalsePlace, NameAlone, CallWithBrackets, CallWithBlock, Yields, Supers, EmptyArray, SomeArray, EmptyHash, SomeHash, InParens}
+use Rattle.rb_rules.specs.Tokens.{Is, StartsWith, Touches, IsWhole, IsFloat, IsText}
+use Rattle.rb_rules.specs.Spans.{across}
+use Rattle.rb_rules.specs.Forms.{Inside}
+use Rattle.rb_rules.specs.Grammar.{Gap, IsRow, SIGNS, DerivesEnd, DerivesBody, DerivesTerm, DerivesBlock, DerivesPieces, DerivesElements, DerivesPairs, DerivesPair}
+use Rattle.rb_rules.specs.Grammar.DerivesBrackets.{NoBrackets}
+use Rattle.rb_rules.specs.Grammar.DerivesPieces.{NoPiece, MorePieces}
+use Rattle.rb_rules.specs.Grammar.DerivesElements.{LastElement, MoreElements}
+use Rattle.rb_rules.specs.Grammar.DerivesPairs.{LastPair, MorePairs}
+use Rattle.rb_rules.specs.Grammar.DerivesPair.{ByArrow, ByLabel}
+use Rattle.rb_rules.specs.Grammar.DerivesTarget.{Variable, Instance, Constant as ConstantTarget}
+use Rattle.rb_rules.specs.Grammar.DerivesCallee.{Own, YieldWord, SuperWord}
+use Rattle.rb_rules.specs.Grammar.DerivesPrimary.{WholeNumber, FloatNumber, SignedWhole, SignedFloat, String, SymbolName, InstanceName, ConstantName, FromTop, SelfPlace, NilPlace, TruePlace, FalsePlace, NameAlone, CallWithBrackets, CallWithBlock, Yields, Supers, EmptyArray, SomeArray, EmptyHash, SomeHash, InParens}
 use Rattle.rb_grammar.proofs.Steps.{Holds, answered, refused, step, weaker, choose, choosing, taking, naming, wording, follow, follow-words, shown, Within, within-self, within-token, within-more, gap, identifier, constant, instance_variable, label, symbol, whole, float, text}
 use Rattle.rb_grammar.proofs.Sound.{Sound, Primary, starts, used}
 use Rattle.rb_grammar.proofs.Lists.{and-left, element-holds}

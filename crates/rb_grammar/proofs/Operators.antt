@@ -18,13 +18,13 @@ use Rattle.rb_expr.specs.Reading.{Parser, sees, after, touches}
 use Rattle.rb_expr.specs.Shapes.{binary_of, level_of, ceiling, between, operator_between, sees_number, is_signed, is_sign, is_negation, prefix_by, prefix_of}
 use Rattle.rb_expr.specs.Operators.{unary_operation, binary_operation, prefixed_by, prefixed, powered, power, negated, climb_by, climb_from, climb, operation, alternatives, chosen, tern, tern_behind}
 use Rattle.rb_expr.specs.Operators as spec
-use Rattle.rb_grammar.specs.Tokens.{Is, IsAny, Touches, NUMBERS, IsBeforeNumber, IsRaised}
-use Rattle.rb_grammar.specs.Spans.{across}
-use Rattle.rb_grammar.specs.Forms.{Operates}
-use Rattle.rb_grammar.specs.Grammar.{IsRow, PREFIXES, DerivesTerm, DerivesLevel, DerivesPrefixed}
-use Rattle.rb_grammar.specs.Grammar.DerivesTerm.{Operated, Conditional}
-use Rattle.rb_grammar.specs.Grammar.DerivesLevel.{Tighter, FromLeft, Once, Negated, Raised, Plainly}
-use Rattle.rb_grammar.specs.Grammar.DerivesPrefixed.{Prefixed}
+use Rattle.rb_rules.specs.Tokens.{Is, IsAny, Touches, NUMBERS, IsBeforeNumber, IsRaised}
+use Rattle.rb_rules.specs.Spans.{across}
+use Rattle.rb_rules.specs.Forms.{Operates}
+use Rattle.rb_rules.specs.Grammar.{IsRow, PREFIXES, DerivesTerm, DerivesLevel, DerivesPrefixed}
+use Rattle.rb_rules.specs.Grammar.DerivesTerm.{Operated, Conditional}
+use Rattle.rb_rules.specs.Grammar.DerivesLevel.{Tighter, FromLeft, Once, Negated, Raised, Plainly}
+use Rattle.rb_rules.specs.Grammar.DerivesPrefixed.{Prefixed}
 use Rattle.rb_grammar.proofs.Steps.{Holds, answered, refused, step, weaker, choosing, same, follow, testing, shown, Within, within-token, within-more}
 use Rattle.rb_grammar.proofs.Sound.{Sound, Starts, starts}
 use Rattle.rb_grammar.proofs.Lists.{and-left, and-right}

@@ -14,13 +14,13 @@ use Rattle.rb_decl.specs.declared.parameter.Stage.{Stage}
 use Rattle.rb_decl.specs.declared.parameter.Stage.TheVariants as stage
 use Rattle.rb_decl.specs.Parameters as spec
 use Rattle.rb_decl.specs.Parameters.{name_of, stage_behind, is_among, fresh, noted, is_plain, is_first, is_last, plain, has_no_default, keyword, block, behind_comma, is_over, row_from, row, bracketed, bare, parameters_of}
-use Rattle.rb_grammar.specs.Tokens.{Is, IsIdentifier, IsLabel}
-use Rattle.rb_grammar.specs.Forms.{AreParameters, AreOptional, AreKeywords, AreDistinct, IsNot, name_of_parameter, names_of_parameters}
-use Rattle.rb_grammar.specs.Grammar.{Gap, GapIn, DerivesParameter, DerivesParameterList, DerivesParameters}
-use Rattle.rb_grammar.specs.Grammar.GapIn.{Tight, Loose}
-use Rattle.rb_grammar.specs.Grammar.DerivesParameter.{Required, Optional, RequiredKeyword, OptionalKeyword, BlockParameter}
-use Rattle.rb_grammar.specs.Grammar.DerivesParameterList.{LastParameter, MoreParameters}
-use Rattle.rb_grammar.specs.Grammar.DerivesParameters.{NoParameters, OpenParameters, EmptyParens, InBrackets}
+use Rattle.rb_rules.specs.Tokens.{Is, IsIdentifier, IsLabel}
+use Rattle.rb_rules.specs.Forms.{AreParameters, AreOptional, AreKeywords, AreDistinct, IsNot, name_of_parameter, names_of_parameters}
+use Rattle.rb_rules.specs.Grammar.{Gap, GapIn, DerivesParameter, DerivesParameterList, DerivesParameters}
+use Rattle.rb_rules.specs.Grammar.GapIn.{Tight, Loose}
+use Rattle.rb_rules.specs.Grammar.DerivesParameter.{Required, Optional, RequiredKeyword, OptionalKeyword, BlockParameter}
+use Rattle.rb_rules.specs.Grammar.DerivesParameterList.{LastParameter, MoreParameters}
+use Rattle.rb_rules.specs.Grammar.DerivesParameters.{NoParameters, OpenParameters, EmptyParens, InBrackets}
 use Rattle.rb_grammar.proofs.Steps.{Holds, answered, refused, step, weaker, choosing, follow, testing, seen, Within, within-self, within-token, within-more, gap}
 use Rattle.rb_grammar.proofs.Lists.{or-left, or-right, apart, noted-new}
 use Rattle.rb_grammar.proofs.Forms.{term-holds}

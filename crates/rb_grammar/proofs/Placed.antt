@@ -25,9 +25,9 @@ use Rattle.rb_tree.specs.declared.syntax.When.{When}
 use Rattle.rb_tree.specs.declared.syntax.PlacedName.{PlacedName}
 use Rattle.rb_tree.specs.declared.syntax.Reference.{Reference}
 use Rattle.rb_tree.specs.declared.syntax.Parameter.{Parameter}
-use Rattle.rb_grammar.specs.Tokens.{IsOneOf}
-use Rattle.rb_grammar.specs.Spans.{across, last_of, suffix_span, argument_span, block_or}
-use Rattle.rb_grammar.specs.Grammar.{posted, body_of, span_of_arguments}
+use Rattle.rb_rules.specs.Tokens.{IsOneOf}
+use Rattle.rb_rules.specs.Spans.{across, last_of, suffix_span, argument_span, block_or}
+use Rattle.rb_rules.specs.Grammar.{posted, body_of, span_of_arguments}
 use Rattle.rb_grammar.specs.Places.{Each, IfThere, AreInOrder, IsPlaced, IsNamePlaced, IsReferencePlaced, DoesArgumentStand, DoesBlockStand, DoesSuffixStand, DoesPieceStand, DoesPairStand, DoesArmStand, DoesWhenStand, DoesParameterStand, DoesNodeStand, StandsAt}
 use Rattle.rb_grammar.proofs.Steps.{Within, within-self, within-token as push, within-more as go}
 use Rattle.rb_grammar.proofs.Nodes.{stands}

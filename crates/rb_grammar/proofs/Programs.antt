@@ -18,14 +18,14 @@ use Rattle.rb_decl.specs.Items as spec
 use Rattle.rb_decl.specs.Items.{what_opens, class_head, module_head, namespace_head, end_at, tree_of, ends, statements_from, statements, namespace, item}
 use Rattle.rb_decl.specs.Methods.{method}
 use Rattle.rb_decl.specs.Programs.{place_of, program, whole, parsed}
-use Rattle.rb_grammar.specs.Tokens.{Is}
-use Rattle.rb_grammar.specs.Forms.{Site, Top, Member, is_top, is_open}
-use Rattle.rb_grammar.specs.Grammar.{Gap, Path, Superclass, body_of, Derives, DerivesBody, DerivesMore, DerivesStatement, DerivesDeclaration}
-use Rattle.rb_grammar.specs.Grammar.Gap.{Closed, Wide}
-use Rattle.rb_grammar.specs.Grammar.DerivesBody.{NoStatement, Statements}
-use Rattle.rb_grammar.specs.Grammar.DerivesMore.{NoMore, Another}
-use Rattle.rb_grammar.specs.Grammar.DerivesStatement.{Declared}
-use Rattle.rb_grammar.specs.Grammar.DerivesDeclaration.{ClassOf, ModuleOf}
+use Rattle.rb_rules.specs.Tokens.{Is}
+use Rattle.rb_rules.specs.Forms.{Site, Top, Member, is_top, is_open}
+use Rattle.rb_rules.specs.Grammar.{Gap, Path, Superclass, body_of, Derives, DerivesBody, DerivesMore, DerivesStatement, DerivesDeclaration}
+use Rattle.rb_rules.specs.Grammar.Gap.{Closed, Wide}
+use Rattle.rb_rules.specs.Grammar.DerivesBody.{NoStatement, Statements}
+use Rattle.rb_rules.specs.Grammar.DerivesMore.{NoMore, Another}
+use Rattle.rb_rules.specs.Grammar.DerivesStatement.{Declared}
+use Rattle.rb_rules.specs.Grammar.DerivesDeclaration.{ClassOf, ModuleOf}
 use Rattle.rb_grammar.proofs.Steps.{Holds, answered, refused, step, weaker, choosing, same, taking, follow, Within, within-self, within-token, within-more, gap}
 use Rattle.rb_grammar.proofs.Lists.{last-got}
 use Rattle.rb_grammar.proofs.Forms.{a-statement-holds}

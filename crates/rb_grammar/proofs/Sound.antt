@@ -11,8 +11,8 @@ use Rattle.rb_expr.specs.Reading.{Parser, start_of}
 use Rattle.rb_expr.specs.Statements.{ending_of, ending_at}
 use Rattle.rb_expr.specs.declared.ending.Ending.{Ending}
 use Rattle.rb_expr.specs.declared.ending.Ending.TheVariants as ending
-use Rattle.rb_grammar.specs.Forms.{Inside}
-use Rattle.rb_grammar.specs.Grammar.{DerivesBody, DerivesSimple, DerivesValue, DerivesTerm, DerivesLevel, DerivesPrefixed, DerivesPrimary, DerivesTarget, DerivesCallee}
+use Rattle.rb_rules.specs.Forms.{Inside}
+use Rattle.rb_rules.specs.Grammar.{DerivesBody, DerivesSimple, DerivesValue, DerivesTerm, DerivesLevel, DerivesPrefixed, DerivesPrimary, DerivesTarget, DerivesCallee}
 use Rattle.rb_grammar.proofs.Steps.{Holds, Within}
 
 -- the tree begins where the tokens do

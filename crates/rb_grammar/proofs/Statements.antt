@@ -25,17 +25,17 @@ use Rattle.rb_expr.specs.Shapes.{begins_value, begins_statement, has_value, has_
 use Rattle.rb_expr.specs.Operators as operators
 use Rattle.rb_expr.specs.Statements.{ending_of, is_target, is_plain_target, is_callee, begin_arguments, other_follower, operator_follower, follower_by, follower_of, assigned, operator_assigned, command, followed_by, followed, from_operand, jump_value, simple_by, simple, modified, modifiers_by, modifiers_from, modifiers, statement, body_from, body_start, statements}
 use Rattle.rb_expr.specs.Statements as spec
-use Rattle.rb_grammar.specs.Tokens.{Is, IsOneOf, StartsWith}
-use Rattle.rb_grammar.specs.Spans.{across, last_of, argument_span, block_or}
-use Rattle.rb_grammar.specs.Forms.{Site, is_open, ASSIGNMENTS, MODIFIERS, NO_COMMAND, AreOrdered}
-use Rattle.rb_grammar.specs.Grammar.{Gap, IsRow, MODIFIER_WORDS, JUMP_WORDS, span_of_arguments, DerivesBody, DerivesMore, DerivesStatement, DerivesModified, DerivesSimple, DerivesValue, DerivesTarget, DerivesCallee, DerivesArguments, DerivesPrefixed}
-use Rattle.rb_grammar.specs.Grammar.Gap.{Closed, Wide}
-use Rattle.rb_grammar.specs.Grammar.DerivesBody.{NoStatement, Statements}
-use Rattle.rb_grammar.specs.Grammar.DerivesMore.{NoMore, Another}
-use Rattle.rb_grammar.specs.Grammar.DerivesStatement.{Simply}
-use Rattle.rb_grammar.specs.Grammar.DerivesModified.{Unmodified, Modified}
-use Rattle.rb_grammar.specs.Grammar.DerivesSimple.{Valued, Jumps, JumpsWith}
-use Rattle.rb_grammar.specs.Grammar.DerivesValue.{Term, Assigns, Computes, Command}
+use Rattle.rb_rules.specs.Tokens.{Is, IsOneOf, StartsWith}
+use Rattle.rb_rules.specs.Spans.{across, last_of, argument_span, block_or}
+use Rattle.rb_rules.specs.Forms.{Site, is_open, ASSIGNMENTS, MODIFIERS, NO_COMMAND, AreOrdered}
+use Rattle.rb_rules.specs.Grammar.{Gap, IsRow, MODIFIER_WORDS, JUMP_WORDS, span_of_arguments, DerivesBody, DerivesMore, DerivesStatement, DerivesModified, DerivesSimple, DerivesValue, DerivesTarget, DerivesCallee, DerivesArguments, DerivesPrefixed}
+use Rattle.rb_rules.specs.Grammar.Gap.{Closed, Wide}
+use Rattle.rb_rules.specs.Grammar.DerivesBody.{NoStatement, Statements}
+use Rattle.rb_rules.specs.Grammar.DerivesMore.{NoMore, Another}
+use Rattle.rb_rules.specs.Grammar.DerivesStatement.{Simply}
+use Rattle.rb_rules.specs.Grammar.DerivesModified.{Unmodified, Modified}
+use Rattle.rb_rules.specs.Grammar.DerivesSimple.{Valued, Jumps, JumpsWith}
+use Rattle.rb_rules.specs.Grammar.DerivesValue.{Term, Assigns, Computes, Command}
 use Rattle.rb_grammar.proofs.Steps.{Holds, answered, refused, step, weaker, choosing, same, follow, Within, within-self, within-token, within-more, gap}
 use Rattle.rb_grammar.proofs.Sound.{Sound, Starts, Uses, starts}
 use Rattle.rb_grammar.proofs.Lists.{and-left, and-right}

@@ -11,9 +11,9 @@ use Rattle.rb_tree.specs.declared.token.Shape.TheVariants as shape
 use Rattle.rb_expr.specs.Reading.{Outcome, Parser, and_then, sees, after, words_of, take_token, expect, named, worded, skip_separators}
 use Rattle.rb_tree.specs.declared.token.TokenKind.{TokenKind}
 use Rattle.rb_tree.specs.declared.token.TokenKind.TheVariants as kind
-use Rattle.rb_grammar.specs.Tokens.{Is, IsIdentifier, IsConstant, IsInstanceVariable, IsLabel, IsSymbol, IsWhole, IsFloat, IsText}
-use Rattle.rb_grammar.specs.Grammar.{Gap}
-use Rattle.rb_grammar.specs.Grammar.Gap.{Closed, Wide}
+use Rattle.rb_rules.specs.Tokens.{Is, IsIdentifier, IsConstant, IsInstanceVariable, IsLabel, IsSymbol, IsWhole, IsFloat, IsText}
+use Rattle.rb_rules.specs.Grammar.{Gap}
+use Rattle.rb_rules.specs.Grammar.Gap.{Closed, Wide}
 
 abbrev pub Told : {A : Type 0} → Outcome A → (A → List Token → Type 0) → Type 0
 Told (Ok p) Q = Q p.0 p.1

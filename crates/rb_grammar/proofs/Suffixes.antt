@@ -22,18 +22,18 @@ use Rattle.rb_expr.specs.Shapes.{closes, is_index_after, is_index}
 use Rattle.rb_expr.specs.Lists.{end_with, span_of_suffix}
 use Rattle.rb_expr.specs.Statements.{ending_of, ending_of_suffix, ending_of_last}
 use Rattle.rb_expr.specs.Operands.{call_suffix, constant_suffix, index_suffix, suffix_by, a_suffix, suffixes_from, suffixes, post_of, post}
-use Rattle.rb_grammar.specs.Tokens.{Is, IsAny, IsOneOf, Touches}
-use Rattle.rb_grammar.specs.Spans.{across, last_of, suffix_span}
-use Rattle.rb_grammar.specs.Forms.{AreOrdered}
-use Rattle.rb_grammar.specs.Grammar.{IsRow, DOTS, posted, named_call, DerivesArguments, DerivesEnd, DerivesOperand, DerivesSuffix, DerivesIndex, DerivesPrefixed}
-use Rattle.rb_grammar.specs.Grammar.DerivesBrackets.{NoBrackets}
-use Rattle.rb_grammar.specs.Grammar.DerivesBlockBehind.{NoBlock}
-use Rattle.rb_grammar.specs.Grammar.DerivesSuffix.{Calls, Within as Inner, Indexed}
-use Rattle.rb_grammar.specs.Grammar.DerivesIndex.{Index}
-use Rattle.rb_grammar.specs.Grammar.DerivesOperand.{Bare, Suffixed}
-use Rattle.rb_grammar.specs.Grammar.DerivesPrefixed.{Posted}
-use Rattle.rb_grammar.specs.Grammar.DerivesTarget.{Attribute, Element}
-use Rattle.rb_grammar.specs.Grammar.DerivesCallee.{Of}
+use Rattle.rb_rules.specs.Tokens.{Is, IsAny, IsOneOf, Touches}
+use Rattle.rb_rules.specs.Spans.{across, last_of, suffix_span}
+use Rattle.rb_rules.specs.Forms.{AreOrdered}
+use Rattle.rb_rules.specs.Grammar.{IsRow, DOTS, posted, named_call, DerivesArguments, DerivesEnd, DerivesOperand, DerivesSuffix, DerivesIndex, DerivesPrefixed}
+use Rattle.rb_rules.specs.Grammar.DerivesBrackets.{NoBrackets}
+use Rattle.rb_rules.specs.Grammar.DerivesBlockBehind.{NoBlock}
+use Rattle.rb_rules.specs.Grammar.DerivesSuffix.{Calls, Within as Inner, Indexed}
+use Rattle.rb_rules.specs.Grammar.DerivesIndex.{Index}
+use Rattle.rb_rules.specs.Grammar.DerivesOperand.{Bare, Suffixed}
+use Rattle.rb_rules.specs.Grammar.DerivesPrefixed.{Posted}
+use Rattle.rb_rules.specs.Grammar.DerivesTarget.{Attribute, Element}
+use Rattle.rb_rules.specs.Grammar.DerivesCallee.{Of}
 use Rattle.rb_grammar.proofs.Steps.{Holds, answered, refused, step, choosing, naming, Within, within-self, within-token, within-more, gap, identifier, constant}
 use Rattle.rb_grammar.proofs.Sound.{Sound, Starts, Uses, starts, used}
 use Rattle.rb_grammar.proofs.Lists.{last-got}

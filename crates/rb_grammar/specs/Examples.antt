@@ -13,7 +13,7 @@ use Rattle.rb_tree.specs.declared.syntax.Unary.TheVariants as unary
 use Rattle.rb_tree.specs.declared.token.Token.{Token}
 use Rattle.rb_tree.specs.declared.token.TokenKind.{TokenKind}
 use Rattle.rb_tree.specs.declared.token.TokenKind.TheVariants as kind
-use Rattle.rb_grammar.specs.Grammar.{Derives}
+use Rattle.rb_rules.specs.Grammar.{Derives}
 use Rattle.rb_grammar.specs.Places.{StandsAt}
 
 abbrev pub from_to : ℕ → ℕ → Span

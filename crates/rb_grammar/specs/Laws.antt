@@ -7,8 +7,8 @@ use Rattle.rb_expr.specs.declared.form.Form.TheVariants as form
 use Rattle.rb_expr.specs.Grammar.{parsed}
 use Rattle.rb_expr.specs.Rules.{statement, longest_body, tern}
 use Rattle.rb_decl.specs.Programs.{parsed as parsed_program}
-use Rattle.rb_grammar.specs.Forms.{Site, Inside, is_open}
-use Rattle.rb_grammar.specs.Grammar.{Derives, DerivesBody, DerivesStatement, DerivesSimple, DerivesValue, DerivesTerm, DerivesLevel, DerivesPrefixed}
+use Rattle.rb_rules.specs.Forms.{Site, Inside, is_open}
+use Rattle.rb_rules.specs.Grammar.{Derives, DerivesBody, DerivesStatement, DerivesSimple, DerivesValue, DerivesTerm, DerivesLevel, DerivesPrefixed}
 
 -- The tree is one of this form. The rules count the levels of operators from 1, the grammar from 0.
 abbrev pub DerivesForm : Form → Bool → Tree → List Token → List Token → Type 0

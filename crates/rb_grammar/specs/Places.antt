@@ -20,8 +20,8 @@ use Rattle.rb_tree.specs.declared.syntax.PlacedName.{PlacedName}
 use Rattle.rb_tree.specs.declared.syntax.Reference.{Reference}
 use Rattle.rb_tree.specs.declared.syntax.Parameter.{Parameter}
 use Rattle.rb_tree.specs.declared.syntax.Parameter.TheVariants as parameter
-use Rattle.rb_grammar.specs.Tokens.{IsOneOf}
-use Rattle.rb_grammar.specs.Grammar.{Derives}
+use Rattle.rb_rules.specs.Tokens.{IsOneOf}
+use Rattle.rb_rules.specs.Grammar.{Derives}
 
 -- the fact holds of each element
 abbrev pub Each : {A : Type 0} → (A → Type 0) → List A → Type 0

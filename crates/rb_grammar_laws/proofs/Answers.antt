@@ -6,7 +6,7 @@ use Rattle.rb_weight.specs.Scans.{first_too_deep}
 use Rattle.rb_weight.specs.Weights.{IsFirstDeep}
 use Rattle.rb_weight.proofs.Alike.{first-deep}
 use Rattle.rb_decl.specs.Programs.{program, whole, whole_of, parsed, parsed_by}
-use Rattle.rb_grammar.specs.Grammar.{Derives}
+use Rattle.rb_rules.specs.Grammar.{Derives}
 use Rattle.rb_grammar.proofs.Programs.{programs-derive}
 use Rattle.rb_grammar_laws.specs.Laws.{IsLight, ProgramsAnswer, ParsedExactly, RefusedAreNone, OneTree}
 use Rattle.rb_grammar_laws.proofs.Programs.{program-answers}

@@ -5,22 +5,22 @@ use Rattle.rb_tree.specs.declared.syntax.Suffix.{Suffix}
 use Rattle.rb_tree.specs.declared.syntax.Tree.{Tree}
 use Rattle.rb_tree.specs.declared.token.Token.{Token}
 use Rattle.rb_tree.specs.declared.token.Shape.TheVariants as shape
-use Rattle.rb_grammar.specs.Tokens.{IsOneOf, StartsWith}
-use Rattle.rb_grammar.specs.Grammar.{SIGNS, PREFIXES, JUMP_WORDS, BRANCH_WORDS, LOOP_WORDS, DerivesPrimary, DerivesOperand, DerivesPrefixed, DerivesLevel, DerivesTerm, DerivesTarget, DerivesCallee, DerivesValue, DerivesSimple}
-use Rattle.rb_grammar.specs.Grammar.DerivesPrimary.{WholeNumber, FloatNumber, SignedWhole, SignedFloat, String, SymbolName, InstanceName, ConstantName, FromTop, SelfPlace, NilPlace, TruePlace, FalsePlace, NameAlone, CallWithBrackets, CallWithBlock, Yields, Supers, EmptyArray, SomeArray, EmptyHash, SomeHash, InParens, Branches, Loops, Cases}
-use Rattle.rb_grammar.specs.Grammar.DerivesOperand.{Bare, Suffixed}
-use Rattle.rb_grammar.specs.Grammar.DerivesPrefixed.{Prefixed, Posted}
-use Rattle.rb_grammar.specs.Grammar.DerivesLevel.{Tighter, FromLeft, Once, Negated, Raised, Plainly}
-use Rattle.rb_grammar.specs.Grammar.DerivesTerm.{Operated, Conditional}
-use Rattle.rb_grammar.specs.Grammar.DerivesTarget.{Variable, Instance, Constant, Attribute, Element}
-use Rattle.rb_grammar.specs.Grammar.DerivesCallee.{Own, Of, YieldWord, SuperWord}
-use Rattle.rb_grammar.specs.Grammar.DerivesValue.{Term, Assigns, Computes, Command}
-use Rattle.rb_grammar.specs.Grammar.DerivesSimple.{Valued, Jumps, JumpsWith}
-use Rattle.rb_grammar.specs.Forms.{Inside}
-use Rattle.rb_grammar.specs.Grammar.{Gap, DerivesBody, DerivesStatement}
-use Rattle.rb_grammar.specs.Grammar.Gap.{Closed, Wide}
-use Rattle.rb_grammar.specs.Grammar.DerivesBody.{NoStatement, Statements}
-use Rattle.rb_grammar.specs.Grammar.DerivesStatement.{Declared, Simply}
+use Rattle.rb_rules.specs.Tokens.{IsOneOf, StartsWith}
+use Rattle.rb_rules.specs.Grammar.{SIGNS, PREFIXES, JUMP_WORDS, BRANCH_WORDS, LOOP_WORDS, DerivesPrimary, DerivesOperand, DerivesPrefixed, DerivesLevel, DerivesTerm, DerivesTarget, DerivesCallee, DerivesValue, DerivesSimple}
+use Rattle.rb_rules.specs.Grammar.DerivesPrimary.{WholeNumber, FloatNumber, SignedWhole, SignedFloat, String, SymbolName, InstanceName, ConstantName, FromTop, SelfPlace, NilPlace, TruePlace, FalsePlace, NameAlone, CallWithBrackets, CallWithBlock, Yields, Supers, EmptyArray, SomeArray, EmptyHash, SomeHash, InParens, Branches, Loops, Cases}
+use Rattle.rb_rules.specs.Grammar.DerivesOperand.{Bare, Suffixed}
+use Rattle.rb_rules.specs.Grammar.DerivesPrefixed.{Prefixed, Posted}
+use Rattle.rb_rules.specs.Grammar.DerivesLevel.{Tighter, FromLeft, Once, Negated, Raised, Plainly}
+use Rattle.rb_rules.specs.Grammar.DerivesTerm.{Operated, Conditional}
+use Rattle.rb_rules.specs.Grammar.DerivesTarget.{Variable, Instance, Constant, Attribute, Element}
+use Rattle.rb_rules.specs.Grammar.DerivesCallee.{Own, Of, YieldWord, SuperWord}
+use Rattle.rb_rules.specs.Grammar.DerivesValue.{Term, Assigns, Computes, Command}
+use Rattle.rb_rules.specs.Grammar.DerivesSimple.{Valued, Jumps, JumpsWith}
+use Rattle.rb_rules.specs.Forms.{Inside}
+use Rattle.rb_rules.specs.Grammar.{Gap, DerivesBody, DerivesStatement}
+use Rattle.rb_rules.specs.Grammar.Gap.{Closed, Wide}
+use Rattle.rb_rules.specs.Grammar.DerivesBody.{NoStatement, Statements}
+use Rattle.rb_rules.specs.Grammar.DerivesStatement.{Declared, Simply}
 use Rattle.rb_grammar_laws.specs.Begins.{OPERANDS, TERMS, SIMPLE, BODIES, BeginsOperand}
 use Rattle.rb_grammar_laws.specs.Ends.{Ends, BODY_ENDS}
 use Rattle.rb_grammar_laws.proofs.Steps.{any-of, in-list, wider, by-row, ends-wider, ends-taking-none, identifier, constant, instance_variable, symbol, whole, float, text}

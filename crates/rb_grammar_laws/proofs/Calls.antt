@@ -13,19 +13,19 @@ use Rattle.rb_expr.specs.declared.form.Form.{Form}
 use Rattle.rb_expr.specs.Reading.{Parser, sees, expect, skip_separators, words_of, pure}
 use Rattle.rb_expr.specs.Lists.{order_of, is_keyword, is_block, passes_block, takes_comma, goes_on, is_among, fresh_name, end_of_argument, end_with}
 use Rattle.rb_expr.specs.Calls.{keyword, passed_block, positional, argument_by, one_argument, listed_from, listed, in_brackets, brackets, index_arguments, optional_brackets, bare_from, bare, bar_names_from, bar_names, bars, block, optional_do, any_block, optional_block, command_block}
-use Rattle.rb_grammar.specs.Tokens.{Is, StartsWith, IsIdentifier}
-use Rattle.rb_grammar.specs.Spans.{last_of}
-use Rattle.rb_grammar.specs.Forms.{Inside, AreOrdered, HasNoBlock, LeavesBlock, AreDistinct, names_of}
-use Rattle.rb_grammar.specs.Grammar.{Gap, named, BarNames, Bars, DerivesBody, DerivesEnd, DerivesArgument, DerivesArguments, DerivesBrackets, DerivesBlock, DerivesBlockBehind, DerivesDo, GapIn}
-use Rattle.rb_grammar.specs.Grammar.GapIn.{Tight, Loose}
-use Rattle.rb_grammar.specs.Grammar.BarNames.{LastBar, MoreBars}
-use Rattle.rb_grammar.specs.Grammar.Bars.{NoBars, SomeBars}
-use Rattle.rb_grammar.specs.Grammar.DerivesArgument.{ByPlace, ByName, AsBlock}
-use Rattle.rb_grammar.specs.Grammar.DerivesArguments.{LastArgument, MoreArguments}
-use Rattle.rb_grammar.specs.Grammar.DerivesBrackets.{NoBrackets, EmptyBrackets, Brackets}
-use Rattle.rb_grammar.specs.Grammar.DerivesBlock.{Braces, DoEnd}
-use Rattle.rb_grammar.specs.Grammar.DerivesBlockBehind.{NoBlock, SomeBlock}
-use Rattle.rb_grammar.specs.Grammar.DerivesDo.{NoDo, SomeDo}
+use Rattle.rb_rules.specs.Tokens.{Is, StartsWith, IsIdentifier}
+use Rattle.rb_rules.specs.Spans.{last_of}
+use Rattle.rb_rules.specs.Forms.{Inside, AreOrdered, HasNoBlock, LeavesBlock, AreDistinct, names_of}
+use Rattle.rb_rules.specs.Grammar.{Gap, named, BarNames, Bars, DerivesBody, DerivesEnd, DerivesArgument, DerivesArguments, DerivesBrackets, DerivesBlock, DerivesBlockBehind, DerivesDo, GapIn}
+use Rattle.rb_rules.specs.Grammar.GapIn.{Tight, Loose}
+use Rattle.rb_rules.specs.Grammar.BarNames.{LastBar, MoreBars}
+use Rattle.rb_rules.specs.Grammar.Bars.{NoBars, SomeBars}
+use Rattle.rb_rules.specs.Grammar.DerivesArgument.{ByPlace, ByName, AsBlock}
+use Rattle.rb_rules.specs.Grammar.DerivesArguments.{LastArgument, MoreArguments}
+use Rattle.rb_rules.specs.Grammar.DerivesBrackets.{NoBrackets, EmptyBrackets, Brackets}
+use Rattle.rb_rules.specs.Grammar.DerivesBlock.{Braces, DoEnd}
+use Rattle.rb_rules.specs.Grammar.DerivesBlockBehind.{NoBlock, SomeBlock}
+use Rattle.rb_rules.specs.Grammar.DerivesDo.{NoDo, SomeDo}
 use Rattle.rb_grammar.proofs.Steps.{shown, Within, within-self, within-token, within-more}
 use Rattle.rb_grammar.proofs.Lists.{Allowed, Ordered, noted-new}
 use Rattle.rb_grammar.proofs.Lists as sound

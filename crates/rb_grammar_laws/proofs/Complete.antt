@@ -5,8 +5,8 @@ use Rattle.rb_tree.specs.declared.token.Token.{Token}
 use Rattle.rb_expr.specs.declared.form.Form.{Form}
 use Rattle.rb_expr.specs.declared.form.Form.TheVariants as form
 use Rattle.rb_expr.specs.Reading.{Parser}
-use Rattle.rb_grammar.specs.Forms.{Inside}
-use Rattle.rb_grammar.specs.Grammar.{DerivesBody, DerivesSimple, DerivesValue, DerivesTerm, DerivesLevel, DerivesPrefixed}
+use Rattle.rb_rules.specs.Forms.{Inside}
+use Rattle.rb_rules.specs.Grammar.{DerivesBody, DerivesSimple, DerivesValue, DerivesTerm, DerivesLevel, DerivesPrefixed}
 use Rattle.rb_grammar.proofs.Steps.{Within}
 use Rattle.rb_grammar_laws.specs.Ends.{Ends, IsLooser, BODY_ENDS, SIMPLE_ENDS, TERM_ENDS, OPERATION_ENDS, PREFIXED_ENDS}
 use Rattle.rb_grammar_laws.proofs.Steps.{Past}

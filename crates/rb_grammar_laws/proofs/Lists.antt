@@ -13,12 +13,12 @@ use Rattle.rb_expr.specs.declared.lists.Order.{Order}
 use Rattle.rb_expr.specs.declared.lists.Order.TheVariants as order
 use Rattle.rb_expr.specs.Reading.{sees, and_then, expect}
 use Rattle.rb_expr.specs.Lists.{order_of, is_keyword, is_block, is_some_block, passes_block, takes_comma, closed, behind_comma, behind_element, behind_last, behind_argument, is_among}
-use Rattle.rb_grammar.specs.Tokens.{Is}
-use Rattle.rb_grammar.specs.Spans.{last_of}
-use Rattle.rb_grammar.specs.Forms.{HasNoBlock, IsNot, names_of}
-use Rattle.rb_grammar.specs.Grammar.{Gap}
-use Rattle.rb_grammar.specs.Grammar.Gap.{Closed, Wide}
-use Rattle.rb_grammar.specs.Grammar.DerivesEnd.{NoComma, LastComma}
+use Rattle.rb_rules.specs.Tokens.{Is}
+use Rattle.rb_rules.specs.Spans.{last_of}
+use Rattle.rb_rules.specs.Forms.{HasNoBlock, IsNot, names_of}
+use Rattle.rb_rules.specs.Grammar.{Gap}
+use Rattle.rb_rules.specs.Grammar.Gap.{Closed, Wide}
+use Rattle.rb_rules.specs.Grammar.DerivesEnd.{NoComma, LastComma}
 use Rattle.rb_grammar.proofs.Steps.{shown, Within, within-token}
 use Rattle.rb_grammar.proofs.Lists.{Allowed, Ordered, last-got}
 use Rattle.rb_grammar.proofs.Lists as sound

@@ -17,13 +17,13 @@ use Rattle.rb_expr.specs.Reading.{Outcome, sees, start_of}
 use Rattle.rb_expr.specs.Rules.{body, longest_body}
 use Rattle.rb_expr.specs.Statements as statements
 use Rattle.rb_decl.specs.Methods.{visibility_of, visibility, operator_text, operator_name, plain_name, method_name, own, method_head, defined}
-use Rattle.rb_grammar.specs.Tokens.{Is, IsIdentifier}
-use Rattle.rb_grammar.specs.Spans.{across}
-use Rattle.rb_grammar.specs.Forms.{Inside, METHODS, AreParameters, AreDistinct, names_of_parameters}
-use Rattle.rb_grammar.specs.Grammar.{IsRow, VISIBILITIES, front_span, MethodName, Owner, DerivesBody, DerivesParameters, DerivesMethod}
-use Rattle.rb_grammar.specs.Grammar.MethodName.{Plain, Writer, Capital, Operator}
-use Rattle.rb_grammar.specs.Grammar.Owner.{Other, Own}
-use Rattle.rb_grammar.specs.Grammar.DerivesMethod.{Def}
+use Rattle.rb_rules.specs.Tokens.{Is, IsIdentifier}
+use Rattle.rb_rules.specs.Spans.{across}
+use Rattle.rb_rules.specs.Forms.{Inside, METHODS, AreParameters, AreDistinct, names_of_parameters}
+use Rattle.rb_rules.specs.Grammar.{IsRow, VISIBILITIES, front_span, MethodName, Owner, DerivesBody, DerivesParameters, DerivesMethod}
+use Rattle.rb_rules.specs.Grammar.MethodName.{Plain, Writer, Capital, Operator}
+use Rattle.rb_rules.specs.Grammar.Owner.{Other, Own}
+use Rattle.rb_rules.specs.Grammar.DerivesMethod.{Def}
 use Rattle.rb_grammar.proofs.Steps.{shown, within-self, within-token, within-more}
 use Rattle.rb_grammar.proofs.Forms.{sound}
 use Rattle.rb_grammar.proofs.Parameters.{Links}

@@ -8,11 +8,11 @@ use Rattle.rb_tree.specs.declared.token.Shape.TheVariants as shape
 use Rattle.rb_expr.specs.Reading.{sees}
 use Rattle.rb_decl.specs.Names as spec
 use Rattle.rb_decl.specs.Names.{goes_on, path_from, path, end_at, end_of, short_reference, top_reference, reference, superclass}
-use Rattle.rb_grammar.specs.Tokens.{IsConstant}
-use Rattle.rb_grammar.specs.Spans.{across, last_of}
-use Rattle.rb_grammar.specs.Grammar.{named, Path, Superclass}
-use Rattle.rb_grammar.specs.Grammar.Path.{LastName, MoreNames}
-use Rattle.rb_grammar.specs.Grammar.Superclass.{NoSuperclass, Named, NamedFromTop}
+use Rattle.rb_rules.specs.Tokens.{IsConstant}
+use Rattle.rb_rules.specs.Spans.{across, last_of}
+use Rattle.rb_rules.specs.Grammar.{named, Path, Superclass}
+use Rattle.rb_rules.specs.Grammar.Path.{LastName, MoreNames}
+use Rattle.rb_rules.specs.Grammar.Superclass.{NoSuperclass, Named, NamedFromTop}
 use Rattle.rb_grammar.proofs.Steps.{shown, within-self, within-token}
 use Rattle.rb_grammar.proofs.Lists.{last-got}
 use Rattle.rb_grammar_laws.proofs.Steps.{on, taken, passed, expects, other, constant, past-token, past-within}

@@ -19,15 +19,15 @@ use Rattle.rb_expr.specs.Reading.{Outcome, Parser, sees, touches, words_of}
 use Rattle.rb_expr.specs.Shapes.{sees_number, is_signed}
 use Rattle.rb_expr.specs.Operands as spec
 use Rattle.rb_expr.specs.Operands.{number_by, number, touching, signed, unraised, negative, symbol, instance_variable, constant, top_constant, word_by, word, call_of, interpolation, pieces_from, pieces, text, called, yielding, super_call, elements_from, elements, array_from, array, label_pair, arrow_pair, a_pair, pairs_from, pairs, hash_from, hash, primary_by, primary}
-use Rattle.rb_grammar.specs.Tokens.{Is, IsAny, StartsWith, Touches, NUMBERS, IsWhole, IsFloat, IsIdentifier}
-use Rattle.rb_grammar.specs.Grammar.{IsRow, SIGNS, BRANCH_WORDS, LOOP_WORDS, DerivesEnd, DerivesBlock, DerivesBlockBehind, DerivesPieces, DerivesElements, DerivesPairs, DerivesPair, DerivesPrimary, DerivesBody, DerivesBrackets}
-use Rattle.rb_grammar.specs.Grammar.DerivesBlock.{Braces, DoEnd}
-use Rattle.rb_grammar.specs.Grammar.DerivesBlockBehind.{NoBlock, SomeBlock}
-use Rattle.rb_grammar.specs.Grammar.DerivesPieces.{NoPiece, MorePieces}
-use Rattle.rb_grammar.specs.Grammar.DerivesElements.{LastElement, MoreElements}
-use Rattle.rb_grammar.specs.Grammar.DerivesPairs.{LastPair, MorePairs}
-use Rattle.rb_grammar.specs.Grammar.DerivesPair.{ByArrow, ByLabel}
-use Rattle.rb_grammar.specs.Grammar.DerivesPrimary.{WholeNumber, FloatNumber, SignedWhole, SignedFloat, String, SymbolName, InstanceName, ConstantName, FromTop, SelfPlace, NilPlace, TruePlace, FalsePlace, NameAlone, CallWithBrackets, CallWithBlock, Yields, Supers, EmptyArray, SomeArray, EmptyHash, SomeHash, InParens, Branches, Loops, Cases}
+use Rattle.rb_rules.specs.Tokens.{Is, IsAny, StartsWith, Touches, NUMBERS, IsWhole, IsFloat, IsIdentifier}
+use Rattle.rb_rules.specs.Grammar.{IsRow, SIGNS, BRANCH_WORDS, LOOP_WORDS, DerivesEnd, DerivesBlock, DerivesBlockBehind, DerivesPieces, DerivesElements, DerivesPairs, DerivesPair, DerivesPrimary, DerivesBody, DerivesBrackets}
+use Rattle.rb_rules.specs.Grammar.DerivesBlock.{Braces, DoEnd}
+use Rattle.rb_rules.specs.Grammar.DerivesBlockBehind.{NoBlock, SomeBlock}
+use Rattle.rb_rules.specs.Grammar.DerivesPieces.{NoPiece, MorePieces}
+use Rattle.rb_rules.specs.Grammar.DerivesElements.{LastElement, MoreElements}
+use Rattle.rb_rules.specs.Grammar.DerivesPairs.{LastPair, MorePairs}
+use Rattle.rb_rules.specs.Grammar.DerivesPair.{ByArrow, ByLabel}
+use Rattle.rb_rules.specs.Grammar.DerivesPrimary.{WholeNumber, FloatNumber, SignedWhole, SignedFloat, String, SymbolName, InstanceName, ConstantName, FromTop, SelfPlace, NilPlace, TruePlace, FalsePlace, NameAlone, CallWithBrackets, CallWithBlock, Yields, Supers, EmptyArray, SomeArray, EmptyHash, SomeHash, InParens, Branches, Loops, Cases}
 use Rattle.rb_grammar.proofs.Steps.{shown, same, Within, within-self, within-token, within-more}
 use Rattle.rb_grammar_laws.specs.Begins.{TERMS, ARGUMENTS}
 use Rattle.rb_grammar_laws.specs.Ends.{Ends, BODY_ENDS, TERM_ENDS, PRIMARY_ENDS}
@@ -39,10 +39,10 @@ use Rattle.rb_grammar_laws.proofs.Lists.{square, curly, list-ends, list-within, 
 use Rattle.rb_grammar_laws.proofs.Calls.{brackets-read, any-read, behind-read, block-ends}
 use Rattle.rb_expr.specs.Branches.{branch, repeated}
 use Rattle.rb_grammar_laws.proofs.Branches.{branch-read, repeated-read, choice-read}
-use Rattle.rb_grammar.specs.Grammar.DerivesBrackets.{NoBrackets}
+use Rattle.rb_rules.specs.Grammar.DerivesBrackets.{NoBrackets}
 use Rattle.rb_expr.specs.declared.form.Form.TheVariants as form
 use Rattle.rb_expr.specs.Calls.{any_block, optional_block}
-use Rattle.rb_grammar.specs.Forms.{HasNoBlock, Inside}
+use Rattle.rb_rules.specs.Forms.{HasNoBlock, Inside}
 
 -- ---- numbers
 

@@ -19,13 +19,13 @@ use Rattle.rb_expr.specs.Shapes.{binary_of, level_of, ceiling, between, operator
 use Rattle.rb_expr.specs.Operands.{post}
 use Rattle.rb_expr.specs.Operators.{unary_operation, binary_operation, prefixed_by, prefixed, powered, power, negated, climb_by, climb_from, climb, operation, alternatives, chosen, tern, tern_behind}
 use Rattle.rb_expr.specs.Operators as spec
-use Rattle.rb_grammar.specs.Tokens.{Is, IsAny, IsOneOf, Touches, NUMBERS, IsBeforeNumber, IsRaised}
-use Rattle.rb_grammar.specs.Spans.{across}
-use Rattle.rb_grammar.specs.Forms.{found, LEVELS, IsAt, Operates}
-use Rattle.rb_grammar.specs.Grammar.{IsRow, SIGNS, PREFIXES, DerivesTerm, DerivesLevel, DerivesPrefixed}
-use Rattle.rb_grammar.specs.Grammar.DerivesTerm.{Operated, Conditional}
-use Rattle.rb_grammar.specs.Grammar.DerivesLevel.{Tighter, FromLeft, Once, Negated, Raised, Plainly}
-use Rattle.rb_grammar.specs.Grammar.DerivesPrefixed.{Prefixed, Posted}
+use Rattle.rb_rules.specs.Tokens.{Is, IsAny, IsOneOf, Touches, NUMBERS, IsBeforeNumber, IsRaised}
+use Rattle.rb_rules.specs.Spans.{across}
+use Rattle.rb_rules.specs.Forms.{found, LEVELS, IsAt, Operates}
+use Rattle.rb_rules.specs.Grammar.{IsRow, SIGNS, PREFIXES, DerivesTerm, DerivesLevel, DerivesPrefixed}
+use Rattle.rb_rules.specs.Grammar.DerivesTerm.{Operated, Conditional}
+use Rattle.rb_rules.specs.Grammar.DerivesLevel.{Tighter, FromLeft, Once, Negated, Raised, Plainly}
+use Rattle.rb_rules.specs.Grammar.DerivesPrefixed.{Prefixed, Posted}
 use Rattle.rb_grammar.proofs.Steps.{shown, same, within-token, within-more}
 use Rattle.rb_grammar_laws.specs.Begins.{OPERANDS, BeginsOperand}
 use Rattle.rb_grammar_laws.specs.Ends.{Ends, IsLooser, TERM_ENDS, OPERATION_ENDS, PREFIXED_ENDS, OPERAND_ENDS}

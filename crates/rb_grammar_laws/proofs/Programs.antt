@@ -23,23 +23,23 @@ use Rattle.rb_decl.specs.Items as spec
 use Rattle.rb_decl.specs.Items.{what_opens, class_head, module_head, namespace_head, end_at, tree_of, ends, statements_from, statements, namespace, item}
 use Rattle.rb_decl.specs.Methods.{visibility_of, visibility, defined, method}
 use Rattle.rb_decl.specs.Programs.{program}
-use Rattle.rb_grammar.specs.Tokens.{Is, StartsWith, IsIdentifier}
-use Rattle.rb_grammar.specs.Forms.{Site, Top, Member, is_top, is_open}
-use Rattle.rb_grammar.specs.Grammar.{IsRow, VISIBILITIES, Gap, Path, Superclass, body_of, Derives, DerivesBody, DerivesMore, DerivesStatement, DerivesDeclaration, DerivesMethod, DerivesModified, DerivesSimple, DerivesLevel}
-use Rattle.rb_grammar.specs.Grammar.Gap.{Closed, Wide}
-use Rattle.rb_grammar.specs.Grammar.Superclass.{NoSuperclass, Named, NamedFromTop}
-use Rattle.rb_grammar.specs.Grammar.DerivesBody.{NoStatement, Statements}
-use Rattle.rb_grammar.specs.Grammar.DerivesMore.{NoMore, Another}
-use Rattle.rb_grammar.specs.Grammar.DerivesStatement.{Declared, Simply}
-use Rattle.rb_grammar.specs.Grammar.DerivesDeclaration.{ClassOf, ModuleOf, Method, VisibleMethod}
-use Rattle.rb_grammar.specs.Grammar.DerivesModified.{Unmodified}
-use Rattle.rb_grammar.specs.Grammar.DerivesSimple.{Valued}
-use Rattle.rb_grammar.specs.Grammar.DerivesValue.{Term}
-use Rattle.rb_grammar.specs.Grammar.DerivesTerm.{Operated}
-use Rattle.rb_grammar.specs.Grammar.DerivesLevel.{Tighter, Plainly}
-use Rattle.rb_grammar.specs.Grammar.DerivesPrefixed.{Posted}
-use Rattle.rb_grammar.specs.Grammar.DerivesOperand.{Bare}
-use Rattle.rb_grammar.specs.Grammar.DerivesPrimary.{NameAlone}
+use Rattle.rb_rules.specs.Tokens.{Is, StartsWith, IsIdentifier}
+use Rattle.rb_rules.specs.Forms.{Site, Top, Member, is_top, is_open}
+use Rattle.rb_rules.specs.Grammar.{IsRow, VISIBILITIES, Gap, Path, Superclass, body_of, Derives, DerivesBody, DerivesMore, DerivesStatement, DerivesDeclaration, DerivesMethod, DerivesModified, DerivesSimple, DerivesLevel}
+use Rattle.rb_rules.specs.Grammar.Gap.{Closed, Wide}
+use Rattle.rb_rules.specs.Grammar.Superclass.{NoSuperclass, Named, NamedFromTop}
+use Rattle.rb_rules.specs.Grammar.DerivesBody.{NoStatement, Statements}
+use Rattle.rb_rules.specs.Grammar.DerivesMore.{NoMore, Another}
+use Rattle.rb_rules.specs.Grammar.DerivesStatement.{Declared, Simply}
+use Rattle.rb_rules.specs.Grammar.DerivesDeclaration.{ClassOf, ModuleOf, Method, VisibleMethod}
+use Rattle.rb_rules.specs.Grammar.DerivesModified.{Unmodified}
+use Rattle.rb_rules.specs.Grammar.DerivesSimple.{Valued}
+use Rattle.rb_rules.specs.Grammar.DerivesValue.{Term}
+use Rattle.rb_rules.specs.Grammar.DerivesTerm.{Operated}
+use Rattle.rb_rules.specs.Grammar.DerivesLevel.{Tighter, Plainly}
+use Rattle.rb_rules.specs.Grammar.DerivesPrefixed.{Posted}
+use Rattle.rb_rules.specs.Grammar.DerivesOperand.{Bare}
+use Rattle.rb_rules.specs.Grammar.DerivesPrimary.{NameAlone}
 use Rattle.rb_grammar.proofs.Steps.{shown, same, Within, within-self, within-token, within-more}
 use Rattle.rb_grammar.proofs.Lists.{last-got}
 use Rattle.rb_grammar_laws.specs.Begins.{SIMPLE}

@@ -14,16 +14,16 @@ use Rattle.rb_expr.specs.Shapes.{begins_simple, begins_statement, begins_value, 
 use Rattle.rb_expr.specs.Operators as operators
 use Rattle.rb_expr.specs.Statements as spec
 use Rattle.rb_expr.specs.Statements.{value, jump, jump_value, simple_by, simple, modified, modifiers_by, modifiers_from, modifiers, statement, body_from, body_start, statements}
-use Rattle.rb_grammar.specs.Tokens.{StartsWith}
-use Rattle.rb_grammar.specs.Spans.{across, last_of}
-use Rattle.rb_grammar.specs.Forms.{Site, Inside, MODIFIERS}
-use Rattle.rb_grammar.specs.Grammar.{Gap, IsRow, MODIFIER_WORDS, JUMP_WORDS, body_of, DerivesBody, DerivesMore, DerivesStatement, DerivesModified, DerivesSimple}
-use Rattle.rb_grammar.specs.Grammar.Gap.{Closed, Wide}
-use Rattle.rb_grammar.specs.Grammar.DerivesBody.{NoStatement, Statements}
-use Rattle.rb_grammar.specs.Grammar.DerivesMore.{NoMore, Another}
-use Rattle.rb_grammar.specs.Grammar.DerivesStatement.{Declared, Simply}
-use Rattle.rb_grammar.specs.Grammar.DerivesModified.{Unmodified, Modified}
-use Rattle.rb_grammar.specs.Grammar.DerivesSimple.{Valued, Jumps, JumpsWith}
+use Rattle.rb_rules.specs.Tokens.{StartsWith}
+use Rattle.rb_rules.specs.Spans.{across, last_of}
+use Rattle.rb_rules.specs.Forms.{Site, Inside, MODIFIERS}
+use Rattle.rb_rules.specs.Grammar.{Gap, IsRow, MODIFIER_WORDS, JUMP_WORDS, body_of, DerivesBody, DerivesMore, DerivesStatement, DerivesModified, DerivesSimple}
+use Rattle.rb_rules.specs.Grammar.Gap.{Closed, Wide}
+use Rattle.rb_rules.specs.Grammar.DerivesBody.{NoStatement, Statements}
+use Rattle.rb_rules.specs.Grammar.DerivesMore.{NoMore, Another}
+use Rattle.rb_rules.specs.Grammar.DerivesStatement.{Declared, Simply}
+use Rattle.rb_rules.specs.Grammar.DerivesModified.{Unmodified, Modified}
+use Rattle.rb_rules.specs.Grammar.DerivesSimple.{Valued, Jumps, JumpsWith}
 use Rattle.rb_grammar.proofs.Steps.{Holds, shown, within-self, within-token, within-more}
 use Rattle.rb_grammar.proofs.Sound.{Sound, Starts}
 use Rattle.rb_grammar.proofs.Statements as sound

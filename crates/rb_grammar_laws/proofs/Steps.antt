@@ -6,9 +6,9 @@ use Rattle.rb_tree.specs.declared.token.Token.{Token}
 use Rattle.rb_tree.specs.declared.token.Shape.{Shape}
 use Rattle.rb_tree.specs.declared.token.Shape.TheVariants as shape
 use Rattle.rb_expr.specs.Reading.{Outcome, Parser, and_then, sees, words_of, expect, named, worded, skip_separators}
-use Rattle.rb_grammar.specs.Tokens.{Is, IsAny, IsOneOf, StartsWith, IsIdentifier, IsConstant, IsInstanceVariable, IsLabel, IsSymbol, IsWhole, IsFloat, IsText}
-use Rattle.rb_grammar.specs.Grammar.{Gap, IsRow}
-use Rattle.rb_grammar.specs.Grammar.Gap.{Closed, Wide}
+use Rattle.rb_rules.specs.Tokens.{Is, IsAny, IsOneOf, StartsWith, IsIdentifier, IsConstant, IsInstanceVariable, IsLabel, IsSymbol, IsWhole, IsFloat, IsText}
+use Rattle.rb_rules.specs.Grammar.{Gap, IsRow}
+use Rattle.rb_rules.specs.Grammar.Gap.{Closed, Wide}
 use Rattle.rb_grammar.proofs.Steps.{same, shown, Within, within-self, within-token, within-more}
 use Rattle.rb_grammar_laws.specs.Ends.{Ends}
 

@@ -18,13 +18,13 @@ use Rattle.rb_expr.specs.Reading.{Parser, pure, touches, words_of}
 use Rattle.rb_expr.specs.Shapes.{closes, is_index_after, is_index}
 use Rattle.rb_expr.specs.Lists.{span_of_suffix}
 use Rattle.rb_expr.specs.Operands.{call_suffix, constant_suffix, index_suffix, suffix_by, a_suffix, suffixes_from, suffixes, post_of, post}
-use Rattle.rb_grammar.specs.Tokens.{IsAny, Touches, IsIdentifier}
-use Rattle.rb_grammar.specs.Spans.{across, last_of, suffix_span}
-use Rattle.rb_grammar.specs.Forms.{LeavesBlock}
-use Rattle.rb_grammar.specs.Grammar.{IsRow, DOTS, posted, DerivesBrackets, DerivesBlockBehind, DerivesOperand, DerivesSuffix, DerivesIndex}
-use Rattle.rb_grammar.specs.Grammar.DerivesSuffix.{Calls, Within as Inner, Indexed}
-use Rattle.rb_grammar.specs.Grammar.DerivesIndex.{Index}
-use Rattle.rb_grammar.specs.Grammar.DerivesOperand.{Bare, Suffixed}
+use Rattle.rb_rules.specs.Tokens.{IsAny, Touches, IsIdentifier}
+use Rattle.rb_rules.specs.Spans.{across, last_of, suffix_span}
+use Rattle.rb_rules.specs.Forms.{LeavesBlock}
+use Rattle.rb_rules.specs.Grammar.{IsRow, DOTS, posted, DerivesBrackets, DerivesBlockBehind, DerivesOperand, DerivesSuffix, DerivesIndex}
+use Rattle.rb_rules.specs.Grammar.DerivesSuffix.{Calls, Within as Inner, Indexed}
+use Rattle.rb_rules.specs.Grammar.DerivesIndex.{Index}
+use Rattle.rb_rules.specs.Grammar.DerivesOperand.{Bare, Suffixed}
 use Rattle.rb_grammar.proofs.Steps.{Within, within-self, within-token, within-more}
 use Rattle.rb_grammar.proofs.Lists.{last-got}
 use Rattle.rb_grammar_laws.specs.Ends.{Ends, OPERAND_ENDS, PRIMARY_ENDS}

@@ -30,20 +30,20 @@ use Rattle.rb_expr.specs.Operands.{post}
 use Rattle.rb_expr.specs.Operators as operators
 use Rattle.rb_expr.specs.Operators.{tern, tern_behind}
 use Rattle.rb_expr.specs.Statements.{ending_of, ending_at, ending_of_suffix, ending_of_last, is_target, is_plain_target, is_callee, follower_by, follower_of, assigned, operator_assigned, command, followed_by, followed, from_operand, value}
-use Rattle.rb_grammar.specs.Tokens.{Is, IsAny, IsOneOf, StartsWith}
-use Rattle.rb_grammar.specs.Spans.{across, last_of, argument_span, block_or}
-use Rattle.rb_grammar.specs.Forms.{ASSIGNMENTS, NO_COMMAND, HasNoBlock, AreOrdered}
-use Rattle.rb_grammar.specs.Grammar.{IsRow, posted, named_call, span_of_arguments, DerivesOperand, DerivesTarget, DerivesCallee, DerivesDo, DerivesValue, DerivesArguments, DerivesIndex, DerivesTerm}
-use Rattle.rb_grammar.specs.Grammar.DerivesBrackets.{NoBrackets}
-use Rattle.rb_grammar.specs.Grammar.DerivesBlockBehind.{NoBlock}
-use Rattle.rb_grammar.specs.Grammar.DerivesPrimary.{NameAlone, InstanceName, ConstantName, Yields, Supers}
-use Rattle.rb_grammar.specs.Grammar.DerivesSuffix.{Calls, Indexed}
-use Rattle.rb_grammar.specs.Grammar.DerivesOperand.{Bare, Suffixed}
-use Rattle.rb_grammar.specs.Grammar.DerivesIndex.{Index}
-use Rattle.rb_grammar.specs.Grammar.DerivesTarget.{Variable, Instance, Constant, Attribute, Element}
-use Rattle.rb_grammar.specs.Grammar.DerivesCallee.{Own, Of, YieldWord, SuperWord}
-use Rattle.rb_grammar.specs.Grammar.DerivesDo.{NoDo, SomeDo}
-use Rattle.rb_grammar.specs.Grammar.DerivesValue.{Term, Assigns, Computes, Command}
+use Rattle.rb_rules.specs.Tokens.{Is, IsAny, IsOneOf, StartsWith}
+use Rattle.rb_rules.specs.Spans.{across, last_of, argument_span, block_or}
+use Rattle.rb_rules.specs.Forms.{ASSIGNMENTS, NO_COMMAND, HasNoBlock, AreOrdered}
+use Rattle.rb_rules.specs.Grammar.{IsRow, posted, named_call, span_of_arguments, DerivesOperand, DerivesTarget, DerivesCallee, DerivesDo, DerivesValue, DerivesArguments, DerivesIndex, DerivesTerm}
+use Rattle.rb_rules.specs.Grammar.DerivesBrackets.{NoBrackets}
+use Rattle.rb_rules.specs.Grammar.DerivesBlockBehind.{NoBlock}
+use Rattle.rb_rules.specs.Grammar.DerivesPrimary.{NameAlone, InstanceName, ConstantName, Yields, Supers}
+use Rattle.rb_rules.specs.Grammar.DerivesSuffix.{Calls, Indexed}
+use Rattle.rb_rules.specs.Grammar.DerivesOperand.{Bare, Suffixed}
+use Rattle.rb_rules.specs.Grammar.DerivesIndex.{Index}
+use Rattle.rb_rules.specs.Grammar.DerivesTarget.{Variable, Instance, Constant, Attribute, Element}
+use Rattle.rb_rules.specs.Grammar.DerivesCallee.{Own, Of, YieldWord, SuperWord}
+use Rattle.rb_rules.specs.Grammar.DerivesDo.{NoDo, SomeDo}
+use Rattle.rb_rules.specs.Grammar.DerivesValue.{Term, Assigns, Computes, Command}
 use Rattle.rb_grammar.proofs.Steps.{shown, within-token}
 use Rattle.rb_grammar_laws.specs.Begins.{ARGUMENTS, BeginsOperand}
 use Rattle.rb_grammar_laws.specs.Ends.{Ends, SIMPLE_ENDS, TERM_ENDS, PREFIXED_ENDS, OPERAND_ENDS, BARE}

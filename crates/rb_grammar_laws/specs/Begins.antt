@@ -6,8 +6,8 @@ use Rattle.rb_tree.specs.declared.syntax.Sign.TheVariants as sign
 use Rattle.rb_tree.specs.declared.token.Token.{Token}
 use Rattle.rb_tree.specs.declared.token.Shape.{Shape}
 use Rattle.rb_tree.specs.declared.token.Shape.TheVariants as shape
-use Rattle.rb_grammar.specs.Tokens.{IsAny, IsBeforeNumber, IsRaised}
-use Rattle.rb_grammar.specs.Grammar.{IsRow, SIGNS}
+use Rattle.rb_rules.specs.Tokens.{IsAny, IsBeforeNumber, IsRaised}
+use Rattle.rb_rules.specs.Grammar.{IsRow, SIGNS}
 use Rattle.rb_grammar_laws.specs.Ends.{BODY_ENDS}
 
 -- an operand, if it is no number with a sign

@@ -8,7 +8,7 @@ use Rattle.rb_tree.specs.declared.token.Shape.TheVariants as shape
 use Rattle.rb_expr.specs.declared.form.Form.{Form}
 use Rattle.rb_expr.specs.declared.form.Form.TheVariants as form
 use Rattle.rb_expr.specs.Shapes.{binary_of, level_of}
-use Rattle.rb_grammar.specs.Tokens.{Is, IsAny}
+use Rattle.rb_rules.specs.Tokens.{Is, IsAny}
 
 -- ---- lists of shapes, from the narrowest on
 

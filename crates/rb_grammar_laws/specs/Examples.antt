@@ -4,7 +4,7 @@ use Rattle.rb_tree.specs.declared.syntax.Tree.{Tree}
 use Rattle.rb_tree.specs.declared.token.Token.{Token}
 use Rattle.rb_tree.specs.declared.token.TokenKind.TheVariants as kind
 use Rattle.rb_grammar.specs.Examples.{token}
-use Rattle.rb_grammar.specs.Grammar.{Derives}
+use Rattle.rb_rules.specs.Grammar.{Derives}
 
 abbrev pub HasNoTree : List Token → Type 0
 HasNoTree tokens = (t : Tree) → ¬ Derives tokens t

@@ -8,9 +8,9 @@ use Rattle.rb_expr.specs.declared.form.Form.{Form}
 use Rattle.rb_expr.specs.declared.form.Form.TheVariants as form
 use Rattle.rb_expr.specs.Grammar.{parsed}
 use Rattle.rb_decl.specs.Programs.{program, parsed as parsed_program}
-use Rattle.rb_grammar.specs.Tokens.{StartsWith}
-use Rattle.rb_grammar.specs.Forms.{Inside}
-use Rattle.rb_grammar.specs.Grammar.{Derives, DerivesBody, DerivesTerm, DerivesSimple, DerivesValue, DerivesLevel, DerivesPrefixed}
+use Rattle.rb_rules.specs.Tokens.{StartsWith}
+use Rattle.rb_rules.specs.Forms.{Inside}
+use Rattle.rb_rules.specs.Grammar.{Derives, DerivesBody, DerivesTerm, DerivesSimple, DerivesValue, DerivesLevel, DerivesPrefixed}
 use Rattle.rb_grammar_laws.specs.Begins.{TERMS, SIMPLE, BODIES}
 use Rattle.rb_grammar_laws.specs.Ends.{Ends, BODY_ENDS, EndsForm}
 

@@ -5,7 +5,7 @@ use Rattle.rb_tree.specs.declared.token.Token.{Token}
 use Rattle.rb_expr.specs.Grammar.{parsed}
 use Rattle.rb_expr.specs.Reading.{Outcome}
 use Rattle.rb_expr.specs.declared.form.Form.{Form}
-use Rattle.rb_grammar.specs.Grammar.{Derives}
+use Rattle.rb_rules.specs.Grammar.{Derives}
 use Rattle.rb_grammar_laws.proofs.Answers.{programs-answer}
 use Rattle.rb_prefix_laws.specs.Laws.{FormsAreRefusedAlike, FormsEndAlike, FormsNeedNoMoreDepth, RefusalsLookNoFurther, ProgramsNeedNoMoreDepth, RefusalsAreEnds, NoProgramBeginsSo}
 use Rattle.rb_prefix_laws.proofs.Steps.{Alike, rest_of, instead, fits-turns}

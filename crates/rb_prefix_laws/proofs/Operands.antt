@@ -17,7 +17,7 @@ use Rattle.rb_expr.specs.declared.form.Form.TheVariants as form
 use Rattle.rb_expr.specs.Reading.{Parser, ◌<$>◌, peek, sees, start_of, skip_separators, take_token}
 use Rattle.rb_expr.specs.Shapes.{sees_number, is_signed}
 use Rattle.rb_expr.specs.Operands.{number_by, number, touching, signed, unraised, negative, symbol, instance_variable, constant, top_constant, word_by, word, interpolation, pieces_from, pieces, text, called, yielding, super_call, elements_from, elements, array_from, array, label_pair, arrow_pair, a_pair, pairs_from, pairs, hash_from, hash, parens, primary_by, primary}
-use Rattle.rb_grammar.specs.Tokens.{Is}
+use Rattle.rb_rules.specs.Tokens.{Is}
 use Rattle.rb_grammar.proofs.Lists.{and-right}
 use Rattle.rb_prefix_laws.proofs.Steps.{Alike, Looks, bind, join, weaker, answering, one, choose, looking, sees-one, peek-one, done, refusing, refusing-here, expecting, taking, naming, wording, name-next, word-next, taken-in, skipping, Fits, less-fits, loop-in, loop-at, narrow}
 use Rattle.rb_prefix_laws.proofs.Steps.Amount.{answer, any}

@@ -15,7 +15,7 @@ use Rattle.rb_expr.specs.Reading.{Parser, peek, sees, after}
 use Rattle.rb_expr.specs.Shapes.{level_of, ceiling, operator_between, sees_number, is_signed, is_sign, is_negation, prefix_by, prefix_of}
 use Rattle.rb_expr.specs.Operands.{post}
 use Rattle.rb_expr.specs.Operators.{unary_operation, binary_operation, prefixed_by, prefixed, powered, power, negated, climb_by, climb_from, climb, operation, alternatives, chosen, tern, tern_behind}
-use Rattle.rb_grammar.specs.Tokens.{Is}
+use Rattle.rb_rules.specs.Tokens.{Is}
 use Rattle.rb_grammar.proofs.Steps.{same}
 use Rattle.rb_grammar.proofs.Lists.{and-left, and-right}
 use Rattle.rb_prefix_laws.proofs.Steps.{Alike, Looks, Same, first, same-first, bind, weaker, lower, answering, one, looking, looking-far, choose, choosing, sees-one, peek-one, done, taking, take-next, taken-in, expecting, Fits, less-fits, loop-at}

@@ -6,7 +6,7 @@ use Rattle.rb_weight.specs.Scans.{first_too_deep}
 use Rattle.rb_expr.specs.declared.ParseEnd.{ParseEnd}
 use Rattle.rb_expr.specs.declared.ParseEnd.TheVariants.{Bad}
 use Rattle.rb_decl.specs.Programs.{program, whole, whole_of, cut, cut_of, parsed_by, token_start, end_of}
-use Rattle.rb_grammar.specs.Grammar.{Derives}
+use Rattle.rb_rules.specs.Grammar.{Derives}
 use Rattle.rb_grammar_laws.proofs.Answers.{programs-answer}
 use Rattle.rb_prefix_laws.specs.Laws.{IsRefusedAt, EndsShort, BadPlaces}
 use Rattle.rb_prefix_laws.proofs.Programs.{refusal-ends}

@@ -6,7 +6,7 @@ use Rattle.rb_tree.specs.declared.token.Token.{Token}
 use Rattle.rb_tree.specs.declared.token.Shape.{Shape}
 use Rattle.rb_tree.specs.declared.token.Shape.TheVariants as shape
 use Rattle.rb_expr.specs.Reading.{Outcome, Parser, and_then, peek, sees, after, words_of, take_token, expect, named, worded, skip_separators}
-use Rattle.rb_grammar.specs.Tokens.{Is}
+use Rattle.rb_rules.specs.Tokens.{Is}
 use Rattle.rb_grammar.proofs.Steps.{shown}
 
 -- ---- lists that begin alike

@@ -4,7 +4,7 @@ use Rattle.rb_tree.specs.declared.token.Token.{Token}
 use Rattle.rb_tree.specs.declared.token.TokenKind.TheVariants as kind
 use Rattle.rb_decl.specs.Programs.{program}
 use Rattle.rb_grammar.specs.Examples.{token}
-use Rattle.rb_grammar.specs.Grammar.{Begins}
+use Rattle.rb_rules.specs.Grammar.{Begins}
 
 -- `1 )`: a bracket that none opens
 abbrev pub CLOSED : List Token

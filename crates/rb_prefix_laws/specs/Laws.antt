@@ -6,7 +6,7 @@ use Rattle.rb_expr.specs.declared.form.Form.{Form}
 use Rattle.rb_expr.specs.Grammar.{parsed}
 use Rattle.rb_expr.specs.declared.ParseEnd.TheVariants.{Bad}
 use Rattle.rb_decl.specs.Programs.{program, parsed as parsed_program, end_of}
-use Rattle.rb_grammar.specs.Grammar.{Begins, Derives}
+use Rattle.rb_rules.specs.Grammar.{Begins, Derives}
 
 -- ---- forms
 

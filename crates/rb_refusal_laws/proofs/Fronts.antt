@@ -1,7 +1,7 @@
 -- The fronts of what begins a program, and where lists part.
 use Rattle.std.proofs.Common.{◌≡◌, ℕ, ◌<◌, List, [], ◌∷◌, ◌++◌, length, refl, sym, ap, subst, ◌∙◌, append_assoc, arith}
 use Rattle.rb_tree.specs.declared.token.Token.{Token}
-use Rattle.rb_grammar.specs.Grammar.{Derives, Begins, BadAt}
+use Rattle.rb_rules.specs.Grammar.{Derives, Begins, BadAt}
 use Rattle.rb_refusal_laws.specs.Laws.{OnePlace, OneFront, NoEndIsBad}
 
 -- each front of what begins a program begins one

@@ -8,7 +8,7 @@ use Rattle.rb_weight.proofs.Alike.{first-deep}
 use Rattle.rb_expr.specs.declared.ParseEnd.{ParseEnd}
 use Rattle.rb_expr.specs.declared.ParseEnd.TheVariants.{Bad, TooDeep}
 use Rattle.rb_decl.specs.Programs.{program, whole, whole_of, cut, cut_of, parsed_by, token_start, end_of}
-use Rattle.rb_grammar.specs.Grammar.{Derives, Begins, BadAt, EndsEarly}
+use Rattle.rb_rules.specs.Grammar.{Derives, Begins, BadAt, EndsEarly}
 use Rattle.rb_grammar.proofs.Programs.{program-derives}
 use Rattle.rb_grammar_laws.proofs.Answers.{programs-answer}
 use Rattle.rb_completion_laws.proofs.Laws.{fronts-begin, refusals-are-ends}

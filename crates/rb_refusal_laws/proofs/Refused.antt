@@ -9,7 +9,7 @@ use Rattle.rb_weight.proofs.Alike.{first-deep}
 use Rattle.rb_expr.specs.declared.ParseEnd.{ParseEnd}
 use Rattle.rb_expr.specs.declared.ParseEnd.TheVariants.{Bad, TooDeep, NoMemory}
 use Rattle.rb_decl.specs.Programs.{program, parsed, whole, whole_of, cut, cut_of, parsed_by, token_start, end_of}
-use Rattle.rb_grammar.specs.Grammar.{Begins, BadAt, EndsEarly}
+use Rattle.rb_rules.specs.Grammar.{Begins, BadAt, EndsEarly}
 use Rattle.rb_grammar.proofs.Programs.{programs-derive}
 use Rattle.rb_refusal_laws.specs.Laws.{IsDeepAt, NoneBadBeforeDeep, BadTokensAreRefused, EarlyEndsAreRefused, SomeAreRefusedBefore, DeepTokensAreRefused}
 use Rattle.rb_refusal_laws.proofs.Fronts.{begins-with, front-longer, none-bad, no-end-is-bad, one-place}

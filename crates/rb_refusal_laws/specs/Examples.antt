@@ -5,7 +5,7 @@ use Rattle.rb_tree.specs.declared.token.TokenKind.TheVariants as kind
 use Rattle.rb_expr.specs.declared.ParseEnd.TheVariants.{Bad}
 use Rattle.rb_decl.specs.Programs.{parsed}
 use Rattle.rb_grammar.specs.Examples.{token}
-use Rattle.rb_grammar.specs.Grammar.{BadAt, EndsEarly}
+use Rattle.rb_rules.specs.Grammar.{BadAt, EndsEarly}
 
 -- `1 ) 2`: none opens the bracket
 abbrev pub CLOSED : List Token

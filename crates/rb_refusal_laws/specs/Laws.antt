@@ -4,7 +4,7 @@ use Rattle.rb_tree.specs.declared.token.Token.{Token}
 use Rattle.rb_weight.specs.Weights.{DeepAt}
 use Rattle.rb_expr.specs.declared.ParseEnd.TheVariants.{Bad, TooDeep}
 use Rattle.rb_decl.specs.Programs.{parsed, token_start, end_of}
-use Rattle.rb_grammar.specs.Grammar.{Begins, BadAt, EndsEarly}
+use Rattle.rb_rules.specs.Grammar.{Begins, BadAt, EndsEarly}
 use Rattle.rb_grammar_laws.specs.Laws.{IsLight}
 
 -- ---- bad tokens

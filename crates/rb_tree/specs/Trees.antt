@@ -36,9 +36,10 @@ span_at (Tree-F.Parens body span) = span
 span_at (Tree-F.If test condition body arms otherwise span) = span
 span_at (Tree-F.While test condition body span) = span
 span_at (Tree-F.Case subject arms otherwise span) = span
+span_at (Tree-F.Begin guarded span) = span
 span_at (Tree-F.Class path superclass body span) = span
 span_at (Tree-F.Module path body span) = span
-span_at (Tree-F.Def visibility own name name_span parameters body span) = span
+span_at (Tree-F.Def visibility own name name_span parameters guarded span) = span
 
 -- the span of a tree
 unfoldable pub span_of : Tree → Span

@@ -8,7 +8,7 @@
 ghost use Rattle.std.specs.Prelude.{◌≡◌};
 ghost use Rattle.rb_tree.specs.Trees.{span_of};
 
-use srb_terms::{Boxed, Items, Name, Span, Words};
+use srb_terms::{Boxed, Items, Name, ParamKind, Span, Words};
 
 /// A tree of source.
 #[derive(Debug, Drop)]
@@ -52,7 +52,7 @@ pub enum Tree {
     Command {
         callee: Boxed<Tree>,
         arguments: Items<Argument<Boxed<Tree>>>,
-        block: Option<Block<Boxed<Tree>>>,
+        block: Option<Boxed<Block<Boxed<Tree>>>>,
         span: Span,
     },
     /// `condition ? positive : negative`.
@@ -149,7 +149,7 @@ pub enum Tree {
         /// The place of the name.
         name_span: Span,
         arguments: Option<Items<Argument<Boxed<Tree>>>>,
-        block: Option<Block<Boxed<Tree>>>,
+        block: Option<Boxed<Block<Boxed<Tree>>>>,
         span: Span,
     },
     /// `yield`. The arguments are `None` where no brackets stand.
@@ -203,10 +203,15 @@ pub enum Tree {
         otherwise: Option<Boxed<Tree>>,
         span: Span,
     },
+    /// `begin` with its `end`.
+    Begin {
+        guarded: Boxed<Guarded<Boxed<Tree>>>,
+        span: Span,
+    },
     /// `class`.
     Class {
         path: Items<PlacedName>,
-        superclass: Option<Reference>,
+        superclass: Option<Boxed<Reference>>,
         body: Boxed<Tree>,
         span: Span,
     },
@@ -226,7 +231,7 @@ pub enum Tree {
         /// The place of the name's tokens.
         name_span: Span,
         parameters: Items<Parameter<Boxed<Tree>>>,
-        body: Boxed<Tree>,
+        guarded: Boxed<Guarded<Boxed<Tree>>>,
         span: Span,
     },
 }
@@ -366,7 +371,7 @@ pub enum Suffix<T> {
         name_span: Span,
         /// The arguments, `None` where no brackets stand.
         arguments: Option<Items<Argument<T>>>,
-        block: Option<Block<T>>,
+        block: Option<Boxed<Block<T>>>,
         span: Span,
     },
     /// `::` and a constant. The span begins at the `::`.
@@ -451,19 +456,38 @@ pub struct Reference {
     pub span: Span,
 }
 
-/// A parameter of a method. The spans are the names', a keyword's with its `:`.
+/// A body with what is done where it raises an error, and behind it: the body of a method, or what stands between `begin` and
+/// `end`. `T` is the trees in it.
 #[derive(Debug, Drop)]
-pub enum Parameter<T> {
-    /// `name`.
-    Required { name: Name, span: Span },
-    /// `name = default`.
-    Optional { name: Name, span: Span, default: T },
-    /// `name:`.
-    RequiredKeyword { name: Name, span: Span },
-    /// `name: default`.
-    OptionalKeyword { name: Name, span: Span, default: T },
-    /// `&name`.
-    Block { name: Name, span: Span },
+pub struct Guarded<T> {
+    pub body: T,
+    /// The `rescue` clauses.
+    pub rescues: Items<Rescue<T>>,
+    /// What stands behind `else`. There is none where no `rescue` stands.
+    pub otherwise: Option<T>,
+    /// What stands behind `ensure`.
+    pub ensure: Option<T>,
+}
+
+/// A `rescue` clause.
+#[derive(Debug, Drop)]
+pub struct Rescue<T> {
+    /// The expressions behind `rescue`, perhaps none.
+    pub patterns: Items<T>,
+    /// The variable behind `=>`.
+    pub variable: Option<PlacedName>,
+    pub body: T,
+}
+
+/// A parameter of a method. It is none of kind `Rest`, which the profile doesn't have.
+#[derive(Debug, Drop)]
+pub struct Parameter<T> {
+    pub kind: ParamKind,
+    pub name: Name,
+    /// The place of the name, a keyword's with its `:`.
+    pub span: Span,
+    /// What stands behind `=`, or behind the `:` of a keyword. It is there exactly where the kind is optional.
+    pub default: Option<T>,
 }
 
 impl Tree {
@@ -504,6 +528,7 @@ impl Tree {
             | Tree::If { span, .. }
             | Tree::While { span, .. }
             | Tree::Case { span, .. }
+            | Tree::Begin { span, .. }
             | Tree::Class { span, .. }
             | Tree::Module { span, .. }
             | Tree::Def { span, .. } => *span,

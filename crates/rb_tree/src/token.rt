@@ -85,6 +85,12 @@ pub enum TokenKind {
     Yield,
     /// `super`.
     Super,
+    /// `begin`.
+    Begin,
+    /// `rescue`.
+    Rescue,
+    /// `ensure`.
+    Ensure,
     /// `+`.
     Plus,
     /// `-`.
@@ -231,6 +237,9 @@ pub enum Shape {
     False,
     Yield,
     Super,
+    Begin,
+    Rescue,
+    Ensure,
     Plus,
     Minus,
     Star,
@@ -327,6 +336,9 @@ impl TokenKind {
             TokenKind::False => Shape::False,
             TokenKind::Yield => Shape::Yield,
             TokenKind::Super => Shape::Super,
+            TokenKind::Begin => Shape::Begin,
+            TokenKind::Rescue => Shape::Rescue,
+            TokenKind::Ensure => Shape::Ensure,
             TokenKind::Plus => Shape::Plus,
             TokenKind::Minus => Shape::Minus,
             TokenKind::Star => Shape::Star,
@@ -425,6 +437,9 @@ impl Shape {
             Shape::False => Some(TokenKind::False),
             Shape::Yield => Some(TokenKind::Yield),
             Shape::Super => Some(TokenKind::Super),
+            Shape::Begin => Some(TokenKind::Begin),
+            Shape::Rescue => Some(TokenKind::Rescue),
+            Shape::Ensure => Some(TokenKind::Ensure),
             Shape::Plus => Some(TokenKind::Plus),
             Shape::Minus => Some(TokenKind::Minus),
             Shape::Star => Some(TokenKind::Star),

@@ -10,34 +10,34 @@ use Rattle.rb_tree.specs.declared.syntax.Tree.{Tree}
 use Rattle.rb_tree.specs.declared.syntax.Tree.TheVariants as tree
 use Rattle.rb_tree.specs.declared.token.Token.{Token}
 use denote.Hole.Carrier as carrier
-use Rattle.rb_grammar.specs.Tokens.{IsIdentifier}
-use Rattle.rb_grammar.specs.Forms.{Site, Top, Inside, is_open}
+use Rattle.rb_rules.specs.Tokens.{IsIdentifier}
+use Rattle.rb_rules.specs.Forms.{Site, Top, Inside, is_open}
 use Rattle.rb_tree.specs.declared.token.TokenKind.TheVariants as kind
 use Rattle.rb_grammar.specs.Examples.{digit, from_to, token}
-use Rattle.rb_grammar.specs.Grammar.{Derives, body_of, DerivesBody, DerivesLevel, DerivesPrimary, DerivesSimple, DerivesStatement, DerivesTerm}
-use Rattle.rb_grammar.specs.Grammar.Gap.{Closed}
-use Rattle.rb_grammar.specs.Grammar.Then.{Word}
-use Rattle.rb_grammar.specs.Grammar.BarNames.{LastBar}
-use Rattle.rb_grammar.specs.Grammar.Bars.{SomeBars}
-use Rattle.rb_grammar.specs.Grammar.MethodName.{Plain}
-use Rattle.rb_grammar.specs.Grammar.Owner.{Other}
-use Rattle.rb_grammar.specs.Grammar.DerivesBody.{Statements}
-use Rattle.rb_grammar.specs.Grammar.DerivesMore.{NoMore}
-use Rattle.rb_grammar.specs.Grammar.DerivesStatement.{Declared, Simply}
-use Rattle.rb_grammar.specs.Grammar.DerivesModified.{Unmodified, Modified}
-use Rattle.rb_grammar.specs.Grammar.DerivesSimple.{Valued}
-use Rattle.rb_grammar.specs.Grammar.DerivesValue.{Term}
-use Rattle.rb_grammar.specs.Grammar.DerivesTerm.{Operated}
-use Rattle.rb_grammar.specs.Grammar.DerivesLevel.{Tighter, FromLeft, Plainly}
-use Rattle.rb_grammar.specs.Grammar.DerivesPrefixed.{Posted}
-use Rattle.rb_grammar.specs.Grammar.DerivesOperand.{Bare}
-use Rattle.rb_grammar.specs.Grammar.DerivesBlock.{Braces}
-use Rattle.rb_grammar.specs.Grammar.DerivesPrimary.{WholeNumber, NameAlone, CallWithBlock, Branches, Loops}
-use Rattle.rb_grammar.specs.Grammar.DerivesArms.{NoArm}
-use Rattle.rb_grammar.specs.Grammar.DerivesElse.{NoElse}
-use Rattle.rb_grammar.specs.Grammar.DerivesDeclaration.{Method}
-use Rattle.rb_grammar.specs.Grammar.DerivesMethod.{Def}
-use Rattle.rb_grammar.specs.Grammar.DerivesParameters.{EmptyParens}
+use Rattle.rb_rules.specs.Grammar.{Derives, body_of, DerivesBody, DerivesLevel, DerivesPrimary, DerivesSimple, DerivesStatement, DerivesTerm}
+use Rattle.rb_rules.specs.Grammar.Gap.{Closed}
+use Rattle.rb_rules.specs.Grammar.Then.{Word}
+use Rattle.rb_rules.specs.Grammar.BarNames.{LastBar}
+use Rattle.rb_rules.specs.Grammar.Bars.{SomeBars}
+use Rattle.rb_rules.specs.Grammar.MethodName.{Plain}
+use Rattle.rb_rules.specs.Grammar.Owner.{Other}
+use Rattle.rb_rules.specs.Grammar.DerivesBody.{Statements}
+use Rattle.rb_rules.specs.Grammar.DerivesMore.{NoMore}
+use Rattle.rb_rules.specs.Grammar.DerivesStatement.{Declared, Simply}
+use Rattle.rb_rules.specs.Grammar.DerivesModified.{Unmodified, Modified}
+use Rattle.rb_rules.specs.Grammar.DerivesSimple.{Valued}
+use Rattle.rb_rules.specs.Grammar.DerivesValue.{Term}
+use Rattle.rb_rules.specs.Grammar.DerivesTerm.{Operated}
+use Rattle.rb_rules.specs.Grammar.DerivesLevel.{Tighter, FromLeft, Plainly}
+use Rattle.rb_rules.specs.Grammar.DerivesPrefixed.{Posted}
+use Rattle.rb_rules.specs.Grammar.DerivesOperand.{Bare}
+use Rattle.rb_rules.specs.Grammar.DerivesBlock.{Braces}
+use Rattle.rb_rules.specs.Grammar.DerivesPrimary.{WholeNumber, NameAlone, CallWithBlock, Branches, Loops}
+use Rattle.rb_rules.specs.Grammar.DerivesArms.{NoArm}
+use Rattle.rb_rules.specs.Grammar.DerivesElse.{NoElse}
+use Rattle.rb_rules.specs.Grammar.DerivesDeclaration.{Method}
+use Rattle.rb_rules.specs.Grammar.DerivesMethod.{Def}
+use Rattle.rb_rules.specs.Grammar.DerivesParameters.{EmptyParens}
 use Rattle.rb_weight.specs.Sorts.{sort_of}
 use Rattle.rb_weight.specs.Effects.{effect_of, behind, behind_plain}
 use Rattle.rb_weight.specs.Weights.{begun, within}

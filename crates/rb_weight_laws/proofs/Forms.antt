@@ -13,43 +13,43 @@ use Rattle.rb_tree.specs.declared.syntax.Pair.{Pair}
 use Rattle.rb_tree.specs.declared.syntax.Arm.{Arm}
 use Rattle.rb_tree.specs.declared.syntax.When.{When}
 use Rattle.rb_tree.specs.declared.syntax.Parameter.{Parameter}
-use Rattle.rb_grammar.specs.Forms.{Site}
-use Rattle.rb_grammar.specs.Grammar.{DerivesBody, DerivesMore, DerivesStatement, DerivesModified, DerivesSimple, DerivesValue, DerivesTarget, DerivesCallee, DerivesArguments, DerivesArgument, DerivesTerm, DerivesLevel, DerivesPrefixed, DerivesOperand, DerivesSuffix, DerivesIndex, DerivesBrackets, DerivesBlockBehind, DerivesBlock, DerivesDo, DerivesPrimary, DerivesPieces, DerivesElements, DerivesPairs, DerivesPair, DerivesArms, DerivesElse, DerivesSubject, DerivesWhens, DerivesPatterns, DerivesDeclaration, DerivesMethod, DerivesParameters, DerivesParameterList, DerivesParameter}
-use Rattle.rb_grammar.specs.Grammar.DerivesBody.{NoStatement, Statements}
-use Rattle.rb_grammar.specs.Grammar.DerivesMore.{NoMore, Another}
-use Rattle.rb_grammar.specs.Grammar.DerivesStatement.{Declared, Simply}
-use Rattle.rb_grammar.specs.Grammar.DerivesModified.{Unmodified, Modified}
-use Rattle.rb_grammar.specs.Grammar.DerivesSimple.{Valued, Jumps, JumpsWith}
-use Rattle.rb_grammar.specs.Grammar.DerivesValue.{Term, Assigns, Computes, Command}
-use Rattle.rb_grammar.specs.Grammar.DerivesTarget.{Variable, Instance, Constant, Attribute, Element}
-use Rattle.rb_grammar.specs.Grammar.DerivesCallee.{Own, Of, YieldWord, SuperWord}
-use Rattle.rb_grammar.specs.Grammar.DerivesArguments.{LastArgument, MoreArguments}
-use Rattle.rb_grammar.specs.Grammar.DerivesArgument.{ByPlace, ByName, AsBlock}
-use Rattle.rb_grammar.specs.Grammar.DerivesTerm.{Operated, Conditional}
-use Rattle.rb_grammar.specs.Grammar.DerivesLevel.{Tighter, FromLeft, Once, Negated, Raised, Plainly}
-use Rattle.rb_grammar.specs.Grammar.DerivesPrefixed.{Prefixed, Posted}
-use Rattle.rb_grammar.specs.Grammar.DerivesOperand.{Bare, Suffixed}
-use Rattle.rb_grammar.specs.Grammar.DerivesSuffix.{Calls, Within as WithinName, Indexed}
-use Rattle.rb_grammar.specs.Grammar.DerivesIndex.{Index}
-use Rattle.rb_grammar.specs.Grammar.DerivesBrackets.{NoBrackets, EmptyBrackets, Brackets}
-use Rattle.rb_grammar.specs.Grammar.DerivesBlockBehind.{NoBlock, SomeBlock}
-use Rattle.rb_grammar.specs.Grammar.DerivesBlock.{Braces, DoEnd}
-use Rattle.rb_grammar.specs.Grammar.DerivesDo.{NoDo, SomeDo}
-use Rattle.rb_grammar.specs.Grammar.DerivesPrimary.{WholeNumber, FloatNumber, SignedWhole, SignedFloat, String, SymbolName, InstanceName, ConstantName, FromTop, SelfPlace, NilPlace, TruePlace, FalsePlace, NameAlone, CallWithBrackets, CallWithBlock, Yields, Supers, EmptyArray, SomeArray, EmptyHash, SomeHash, InParens, Branches, Loops, Cases}
-use Rattle.rb_grammar.specs.Grammar.DerivesPieces.{NoPiece, MorePieces}
-use Rattle.rb_grammar.specs.Grammar.DerivesElements.{LastElement, MoreElements}
-use Rattle.rb_grammar.specs.Grammar.DerivesPairs.{LastPair, MorePairs}
-use Rattle.rb_grammar.specs.Grammar.DerivesPair.{ByArrow, ByLabel}
-use Rattle.rb_grammar.specs.Grammar.DerivesArms.{NoArm, MoreArms}
-use Rattle.rb_grammar.specs.Grammar.DerivesElse.{NoElse, SomeElse}
-use Rattle.rb_grammar.specs.Grammar.DerivesSubject.{NoSubject, SomeSubject}
-use Rattle.rb_grammar.specs.Grammar.DerivesWhens.{NoWhen, MoreWhens}
-use Rattle.rb_grammar.specs.Grammar.DerivesPatterns.{LastPattern, MorePatterns}
-use Rattle.rb_grammar.specs.Grammar.DerivesDeclaration.{ClassOf, ModuleOf, Method, VisibleMethod}
-use Rattle.rb_grammar.specs.Grammar.DerivesMethod.{Def}
-use Rattle.rb_grammar.specs.Grammar.DerivesParameters.{NoParameters, OpenParameters, EmptyParens, InBrackets}
-use Rattle.rb_grammar.specs.Grammar.DerivesParameterList.{LastParameter, MoreParameters}
-use Rattle.rb_grammar.specs.Grammar.DerivesParameter.{Required, Optional, RequiredKeyword, OptionalKeyword, BlockParameter}
+use Rattle.rb_rules.specs.Forms.{Site}
+use Rattle.rb_rules.specs.Grammar.{DerivesBody, DerivesMore, DerivesStatement, DerivesModified, DerivesSimple, DerivesValue, DerivesTarget, DerivesCallee, DerivesArguments, DerivesArgument, DerivesTerm, DerivesLevel, DerivesPrefixed, DerivesOperand, DerivesSuffix, DerivesIndex, DerivesBrackets, DerivesBlockBehind, DerivesBlock, DerivesDo, DerivesPrimary, DerivesPieces, DerivesElements, DerivesPairs, DerivesPair, DerivesArms, DerivesElse, DerivesSubject, DerivesWhens, DerivesPatterns, DerivesDeclaration, DerivesMethod, DerivesParameters, DerivesParameterList, DerivesParameter}
+use Rattle.rb_rules.specs.Grammar.DerivesBody.{NoStatement, Statements}
+use Rattle.rb_rules.specs.Grammar.DerivesMore.{NoMore, Another}
+use Rattle.rb_rules.specs.Grammar.DerivesStatement.{Declared, Simply}
+use Rattle.rb_rules.specs.Grammar.DerivesModified.{Unmodified, Modified}
+use Rattle.rb_rules.specs.Grammar.DerivesSimple.{Valued, Jumps, JumpsWith}
+use Rattle.rb_rules.specs.Grammar.DerivesValue.{Term, Assigns, Computes, Command}
+use Rattle.rb_rules.specs.Grammar.DerivesTarget.{Variable, Instance, Constant, Attribute, Element}
+use Rattle.rb_rules.specs.Grammar.DerivesCallee.{Own, Of, YieldWord, SuperWord}
+use Rattle.rb_rules.specs.Grammar.DerivesArguments.{LastArgument, MoreArguments}
+use Rattle.rb_rules.specs.Grammar.DerivesArgument.{ByPlace, ByName, AsBlock}
+use Rattle.rb_rules.specs.Grammar.DerivesTerm.{Operated, Conditional}
+use Rattle.rb_rules.specs.Grammar.DerivesLevel.{Tighter, FromLeft, Once, Negated, Raised, Plainly}
+use Rattle.rb_rules.specs.Grammar.DerivesPrefixed.{Prefixed, Posted}
+use Rattle.rb_rules.specs.Grammar.DerivesOperand.{Bare, Suffixed}
+use Rattle.rb_rules.specs.Grammar.DerivesSuffix.{Calls, Within as WithinName, Indexed}
+use Rattle.rb_rules.specs.Grammar.DerivesIndex.{Index}
+use Rattle.rb_rules.specs.Grammar.DerivesBrackets.{NoBrackets, EmptyBrackets, Brackets}
+use Rattle.rb_rules.specs.Grammar.DerivesBlockBehind.{NoBlock, SomeBlock}
+use Rattle.rb_rules.specs.Grammar.DerivesBlock.{Braces, DoEnd}
+use Rattle.rb_rules.specs.Grammar.DerivesDo.{NoDo, SomeDo}
+use Rattle.rb_rules.specs.Grammar.DerivesPrimary.{WholeNumber, FloatNumber, SignedWhole, SignedFloat, String, SymbolName, InstanceName, ConstantName, FromTop, SelfPlace, NilPlace, TruePlace, FalsePlace, NameAlone, CallWithBrackets, CallWithBlock, Yields, Supers, EmptyArray, SomeArray, EmptyHash, SomeHash, InParens, Branches, Loops, Cases}
+use Rattle.rb_rules.specs.Grammar.DerivesPieces.{NoPiece, MorePieces}
+use Rattle.rb_rules.specs.Grammar.DerivesElements.{LastElement, MoreElements}
+use Rattle.rb_rules.specs.Grammar.DerivesPairs.{LastPair, MorePairs}
+use Rattle.rb_rules.specs.Grammar.DerivesPair.{ByArrow, ByLabel}
+use Rattle.rb_rules.specs.Grammar.DerivesArms.{NoArm, MoreArms}
+use Rattle.rb_rules.specs.Grammar.DerivesElse.{NoElse, SomeElse}
+use Rattle.rb_rules.specs.Grammar.DerivesSubject.{NoSubject, SomeSubject}
+use Rattle.rb_rules.specs.Grammar.DerivesWhens.{NoWhen, MoreWhens}
+use Rattle.rb_rules.specs.Grammar.DerivesPatterns.{LastPattern, MorePatterns}
+use Rattle.rb_rules.specs.Grammar.DerivesDeclaration.{ClassOf, ModuleOf, Method, VisibleMethod}
+use Rattle.rb_rules.specs.Grammar.DerivesMethod.{Def}
+use Rattle.rb_rules.specs.Grammar.DerivesParameters.{NoParameters, OpenParameters, EmptyParens, InBrackets}
+use Rattle.rb_rules.specs.Grammar.DerivesParameterList.{LastParameter, MoreParameters}
+use Rattle.rb_rules.specs.Grammar.DerivesParameter.{Required, Optional, RequiredKeyword, OptionalKeyword, BlockParameter}
 use Rattle.rb_weight.specs.Sorts.{sort_of}
 use Rattle.rb_weight.specs.Effects.{is_condition}
 use Rattle.rb_weight.specs.declared.effect.Before.{Before}

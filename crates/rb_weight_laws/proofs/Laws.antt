@@ -3,7 +3,7 @@ use Rattle.std.proofs.Common.{◌≡◌, ℕ, ◌+◌, ◌<◌, ◌≤◌, List,
 use Rattle.std.proofs.lemmas.List.{take-append-le}
 use Rattle.rb_tree.specs.declared.token.Token.{Token}
 use Rattle.rb_tree.specs.declared.syntax.Tree.{Tree}
-use Rattle.rb_grammar.specs.Grammar.{Derives}
+use Rattle.rb_rules.specs.Grammar.{Derives}
 use Rattle.rb_weight.specs.Weights.{Open, DeepAt, begun, weight_behind}
 use Rattle.rb_weight.specs.declared.TheConstants.{MOST}
 use Rattle.rb_weight.specs.declared.effect.Before.TheVariants as before

@@ -6,18 +6,18 @@ use Rattle.rb_tree.specs.declared.token.Token.{Token}
 use Rattle.rb_tree.specs.declared.token.Shape.TheVariants as shape
 use Rattle.rb_tree.specs.declared.syntax.PlacedName.{PlacedName}
 use Rattle.rb_tree.specs.declared.syntax.Reference.{Reference}
-use Rattle.rb_grammar.specs.Tokens.{IsAny}
-use Rattle.rb_grammar.specs.Grammar.{Gap, GapIn, Then, BarNames, Bars, Path, Superclass, MethodName, Owner, DerivesEnd}
-use Rattle.rb_grammar.specs.Grammar.Gap.{Closed, Wide}
-use Rattle.rb_grammar.specs.Grammar.GapIn.{Tight, Loose}
-use Rattle.rb_grammar.specs.Grammar.Then.{Word, Line, LineWord}
-use Rattle.rb_grammar.specs.Grammar.BarNames.{LastBar, MoreBars}
-use Rattle.rb_grammar.specs.Grammar.Bars.{NoBars, SomeBars}
-use Rattle.rb_grammar.specs.Grammar.Path.{LastName, MoreNames}
-use Rattle.rb_grammar.specs.Grammar.Superclass.{NoSuperclass, Named, NamedFromTop}
-use Rattle.rb_grammar.specs.Grammar.MethodName.{Plain, Writer, Capital, Operator}
-use Rattle.rb_grammar.specs.Grammar.Owner.{Other, Own as OwnSelf}
-use Rattle.rb_grammar.specs.Grammar.DerivesEnd.{NoComma, LastComma}
+use Rattle.rb_rules.specs.Tokens.{IsAny}
+use Rattle.rb_rules.specs.Grammar.{Gap, GapIn, Then, BarNames, Bars, Path, Superclass, MethodName, Owner, DerivesEnd}
+use Rattle.rb_rules.specs.Grammar.Gap.{Closed, Wide}
+use Rattle.rb_rules.specs.Grammar.GapIn.{Tight, Loose}
+use Rattle.rb_rules.specs.Grammar.Then.{Word, Line, LineWord}
+use Rattle.rb_rules.specs.Grammar.BarNames.{LastBar, MoreBars}
+use Rattle.rb_rules.specs.Grammar.Bars.{NoBars, SomeBars}
+use Rattle.rb_rules.specs.Grammar.Path.{LastName, MoreNames}
+use Rattle.rb_rules.specs.Grammar.Superclass.{NoSuperclass, Named, NamedFromTop}
+use Rattle.rb_rules.specs.Grammar.MethodName.{Plain, Writer, Capital, Operator}
+use Rattle.rb_rules.specs.Grammar.Owner.{Other, Own as OwnSelf}
+use Rattle.rb_rules.specs.Grammar.DerivesEnd.{NoComma, LastComma}
 use Rattle.rb_weight.specs.Sorts.{sort_of}
 use Rattle.rb_weight.specs.Effects.{is_condition}
 use Rattle.rb_weight.specs.declared.effect.Before.{Before}

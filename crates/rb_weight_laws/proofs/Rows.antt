@@ -10,9 +10,9 @@ use Rattle.rb_tree.specs.declared.syntax.Sign.{Sign}
 use Rattle.rb_tree.specs.declared.syntax.Test.{Test}
 use Rattle.rb_tree.specs.declared.syntax.Unary.{Unary}
 use Rattle.rb_tree.specs.declared.token.Token.{Token}
-use Rattle.rb_grammar.specs.Tokens.{StartsWith}
-use Rattle.rb_grammar.specs.Forms.{found, LEVELS, IsAt, Operates, ASSIGNMENTS, METHODS, NO_COMMAND}
-use Rattle.rb_grammar.specs.Grammar.{IsRow, MODIFIER_WORDS, JUMP_WORDS, BRANCH_WORDS, LOOP_WORDS, SIGNS, PREFIXES, DOTS}
+use Rattle.rb_rules.specs.Tokens.{StartsWith}
+use Rattle.rb_rules.specs.Forms.{found, LEVELS, IsAt, Operates, ASSIGNMENTS, METHODS, NO_COMMAND}
+use Rattle.rb_rules.specs.Grammar.{IsRow, MODIFIER_WORDS, JUMP_WORDS, BRANCH_WORDS, LOOP_WORDS, SIGNS, PREFIXES, DOTS}
 use Rattle.rb_weight.specs.Sorts.{sort_of}
 use Rattle.rb_weight.specs.declared.sort.Sort.TheVariants as sort
 use Rattle.rb_weight.specs.declared.effect.Before.{Before}

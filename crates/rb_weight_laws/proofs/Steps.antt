@@ -3,8 +3,8 @@
 use Rattle.std.proofs.Common.{◌≡◌, List, [], ◌∷◌, ◌++◌, refl, sym, ap, ◌∙◌, append_assoc}
 use Rattle.rb_tree.specs.Tokens.{shape_of}
 use Rattle.rb_tree.specs.declared.token.Token.{Token}
-use Rattle.rb_grammar.specs.Tokens.{StartsWith}
-use Rattle.rb_grammar.specs.Forms.{MODIFIERS}
+use Rattle.rb_rules.specs.Tokens.{StartsWith}
+use Rattle.rb_rules.specs.Forms.{MODIFIERS}
 use Rattle.rb_weight.specs.Sorts.{sort_of}
 use Rattle.rb_weight.specs.Effects.{effect_of, behind, separated}
 use Rattle.rb_weight.specs.declared.sort.Sort.{Sort}

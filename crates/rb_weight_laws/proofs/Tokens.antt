@@ -5,7 +5,7 @@ use Rattle.rb_tree.specs.Tokens.{shape_of}
 use Rattle.rb_tree.specs.declared.token.Token.{Token}
 use Rattle.rb_tree.specs.declared.token.TokenKind.{TokenKind}
 use Rattle.rb_tree.specs.declared.token.Shape.{Shape}
-use Rattle.rb_grammar.specs.Tokens.{Is}
+use Rattle.rb_rules.specs.Tokens.{Is}
 use Rattle.rb_weight.specs.Sorts.{sort_of}
 use Rattle.rb_weight.specs.Effects.{effect_of, behind, behind_plain, is_condition, separated}
 use Rattle.rb_weight.specs.declared.sort.Sort.{Sort}

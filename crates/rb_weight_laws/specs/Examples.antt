@@ -8,7 +8,7 @@ use Rattle.rb_tree.specs.declared.syntax.Tree.TheVariants as tree
 use Rattle.rb_tree.specs.declared.token.Token.{Token}
 use Rattle.rb_tree.specs.declared.token.TokenKind.TheVariants as kind
 use Rattle.rb_grammar.specs.Examples.{digit, from_to, token}
-use Rattle.rb_grammar.specs.Grammar.{Derives}
+use Rattle.rb_rules.specs.Grammar.{Derives}
 use Rattle.rb_weight_laws.specs.Roles.{Role, roles}
 use Rattle.rb_weight_laws.specs.Weights.{levels_with, weight_of_levels}
 use Rattle.rb_weight_laws.specs.Roles.Role.{Opens, Closes, Counts, LoopDo, Divides, Stands}

@@ -3,7 +3,7 @@ use Rattle.std.specs.Prelude.{◌≡◌, ℕ, ◌<◌, ◌≤◌, ◌↔◌, Lis
 use Rattle.rb_tree.specs.Tokens.{shape_of}
 use Rattle.rb_tree.specs.declared.token.Token.{Token}
 use Rattle.rb_tree.specs.declared.syntax.Tree.{Tree}
-use Rattle.rb_grammar.specs.Grammar.{Begins, Derives}
+use Rattle.rb_rules.specs.Grammar.{Begins, Derives}
 use Rattle.rb_weight.specs.Sorts.{sort_of}
 use Rattle.rb_weight.specs.Effects.{effect_of}
 use Rattle.rb_weight.specs.Weights.{Nest, DeepAt, begun, innermost, next, weight_behind}

@@ -5,7 +5,7 @@ use Rattle.srb_terms.specs.declared.span.Span.{Span}
 use Rattle.srb_text.specs.Positions.{IsStart}
 use Rattle.rb_tree.specs.declared.token.Token.{Token}
 use Rattle.rb_lex_laws.specs.Tokens.{StandInOrder}
-use Rattle.rb_grammar.specs.Tokens.{IsOneOf}
+use Rattle.rb_rules.specs.Tokens.{IsOneOf}
 use Rattle.rb_grammar.specs.Places.{AreInOrder, IsPlaced}
 use Rattle.srb_check.specs.Readings.{begins_at, token_place}
 use Rattle.srb_check.proofs.CharacterPlaces.{text-end}

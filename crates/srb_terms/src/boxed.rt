@@ -1,13 +1,14 @@
-ghost use Rattle.std.specs.Prelude.{◌≡◌, IfOk};
+ghost use Rattle.std.specs.Prelude.{◌≡◌, IfOk, IfSome};
 
 use crate::NoMemory;
 use std::alloc::Global;
 use std::marker::Model;
+use std::sync::Arc;
 
-/// A value on the heap, which a contract sees as the value itself, also inside a type that holds itself.
+/// A value on the heap, which a contract sees as the value itself, also inside a type that holds itself. Copies share the value.
 #[derive(Debug, Drop)]
 pub struct Boxed<T> {
-    held: Box<T>,
+    held: Arc<T>,
 }
 
 impl<T> Model for Boxed<T> {
@@ -26,12 +27,12 @@ impl<T> Boxed<T> {
         &self.held
     }
 
-    /// Takes the value out.
-    pub fn into_inner(self) -> T
-        ensures { result ≡ self }
+    /// Takes the value out, where no other copy shares it.
+    pub fn into_inner(self) -> Option<T>
+        ensures { IfSome result (λ value. value ≡ self) }
     {
         let Boxed { held } = self;
-        Box::into_inner(held)
+        Arc::into_inner(held)
     }
 }
 
@@ -40,7 +41,17 @@ impl<T: Drop> Boxed<T> {
     pub fn new(alloc: Global, value: T) -> Result<Boxed<T>, NoMemory>
         ensures { IfOk result (λ b. b ≡ value) }
     {
-        let held = Box::new(alloc, value)?;
-        Ok(Boxed { held })
+        Ok(Boxed {
+            held: Arc::new(alloc, value)?,
+        })
+    }
+
+    /// A copy that shares the value. It takes no memory, and fails only at 2^63 copies.
+    pub fn copied(&self) -> Result<Boxed<T>, NoMemory>
+        ensures { IfOk result (λ b. b ≡ self.now) }
+    {
+        Ok(Boxed {
+            held: self.held.clone()?,
+        })
     }
 }

@@ -2,7 +2,6 @@ ghost use Rattle.std.specs.Prelude.{◌≡◌, ◌↔◌, IsTrue, IfOk};
 ghost use Rattle.std.proofs.Common.{rules};
 
 use crate::{NoMemory, Span, Words};
-use std::alloc::Global;
 use std::cmp::Ordering;
 
 /// One error of a file: its place, its number and its text.
@@ -17,14 +16,14 @@ pub struct Diag {
 }
 
 impl Diag {
-    /// A copy of this error.
-    pub fn copied(&self, alloc: Global) -> Result<Diag, NoMemory>
+    /// A copy of this error. It takes no memory.
+    pub fn copied(&self) -> Result<Diag, NoMemory>
         ensures { IfOk result (λ d. d ≡ self.now) }
     {
         Ok(Diag {
             span: self.span,
             number: self.number,
-            text: self.text.copied(alloc)?,
+            text: self.text.copied()?,
         })
     }
 

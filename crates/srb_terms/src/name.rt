@@ -7,27 +7,29 @@ ghost use Rattle.std.specs.Hash as fed;
 ghost use Rattle.std.specs.Ordering.{nat_cmp};
 ghost use Rattle.std.specs.Str.{IsUtf8};
 
-use crate::NoMemory;
+use crate::{NoMemory, Words};
 use std::alloc::Global;
 use std::cmp::Ordering;
 use std::fmt;
 use std::hash::{Hash, Hasher};
 use std::marker::Model;
+use std::sync::ArcStr;
 
 /// A name, as of a class, a method or a file. A contract sees it as its bytes, which are UTF-8.
 ///
 /// Two names are equal exactly where their bytes are, and they are ordered by their bytes.
 #[derive(Drop)]
 pub struct Name {
-    text: String,
+    text: ArcStr,
 }
 
 impl Model for Name {
-    ghost use Rattle.std.specs.Prelude.{ℕ, List, string_bytes};
+    ghost use Rattle.std.specs.Arc.{arc_str_bytes};
+    ghost use Rattle.std.specs.Prelude.{ℕ, List};
 
     ghost Value = { List ℕ };
 
-    ghost view = { λ n. string_bytes n.text };
+    ghost view = { λ n. arc_str_bytes n.text };
 }
 
 impl Name {
@@ -36,15 +38,25 @@ impl Name {
         ensures { IfOk result (λ n. n ≡ text.now) }
     {
         Ok(Name {
-            text: String::from_str(alloc, text)?,
+            text: ArcStr::from_str(alloc, text)?,
         })
     }
 
-    /// The name with this text, without a copy.
-    pub fn from_string(text: String) -> Name
-        ensures { result ≡ string_bytes text }
+    /// The name with this text, without a copy of its bytes.
+    pub fn from_string(text: String) -> Result<Name, NoMemory>
+        ensures { IfOk result (λ n. n ≡ string_bytes text) }
     {
-        Name { text }
+        Ok(Name {
+            text: ArcStr::from_string(text)?,
+        })
+    }
+
+    /// The name that is spelled as `words`, without a copy of its bytes.
+    pub fn from_words(words: &Words) -> Result<Name, NoMemory>
+        ensures { IfOk result (λ n. n ≡ words.now) }
+    {
+        let Words { text } = words.copied()?;
+        Ok(Name { text })
     }
 
     /// The name as a text.
@@ -76,11 +88,13 @@ impl Name {
         self.text.is_empty()
     }
 
-    /// A copy of this name.
-    pub fn copied(&self, alloc: Global) -> Result<Name, NoMemory>
+    /// A copy that shares the bytes. It takes no memory, and fails only at 2^63 copies.
+    pub fn copied(&self) -> Result<Name, NoMemory>
         ensures { IfOk result (λ n. n ≡ self.now) }
     {
-        Name::from_str(alloc, self.text.as_str())
+        Ok(Name {
+            text: self.text.clone()?,
+        })
     }
 
     /// Whether both names have the same bytes.

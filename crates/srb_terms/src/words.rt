@@ -1,4 +1,4 @@
-ghost use Rattle.std.specs.Prelude.{◌≡◌, ◌++◌, ◌↔◌, [], length, nat_eq, refl, IsTrue, IfOk, OnOk, OnErr, Some, string_bytes};
+ghost use Rattle.std.specs.Prelude.{◌≡◌, ◌↔◌, [], length, nat_eq, refl, IsTrue, IfOk, Some, string_bytes};
 ghost use Rattle.std.proofs.Common.{rules};
 ghost use Rattle.std.specs.Cmp.{partial_equiv_from_equiv};
 ghost use Rattle.std.specs.Cmp.Lexicographic.{pointwise, slice_cmp, nat_list_eq_equiv, nat_list_cmp_total, texts_ties, texts_po};
@@ -13,47 +13,42 @@ use std::cmp::Ordering;
 use std::fmt;
 use std::hash::{Hash, Hasher};
 use std::marker::Model;
+use std::sync::ArcStr;
 
 /// A text, as a message or the content of a literal. A contract sees it as its bytes, which are UTF-8.
 ///
 /// Two texts are equal exactly where their bytes are, and they are ordered by their bytes.
 #[derive(Drop)]
 pub struct Words {
-    text: String,
+    pub(crate) text: ArcStr,
 }
 
 impl Model for Words {
-    ghost use Rattle.std.specs.Prelude.{ℕ, List, string_bytes};
+    ghost use Rattle.std.specs.Arc.{arc_str_bytes};
+    ghost use Rattle.std.specs.Prelude.{ℕ, List};
 
     ghost Value = { List ℕ };
 
-    ghost view = { λ w. string_bytes w.text };
+    ghost view = { λ w. arc_str_bytes w.text };
 }
 
 impl Words {
-    /// The empty text. It takes no memory.
-    pub fn new(alloc: Global) -> Words
-        ensures { result ≡ [] }
-    {
-        Words {
-            text: String::new(alloc),
-        }
-    }
-
     /// A copy of `text`.
     pub fn from_str(alloc: Global, text: &str) -> Result<Words, NoMemory>
         ensures { IfOk result (λ w. w ≡ text.now) }
     {
         Ok(Words {
-            text: String::from_str(alloc, text)?,
+            text: ArcStr::from_str(alloc, text)?,
         })
     }
 
-    /// The text of `text`, without a copy.
-    pub fn from_string(text: String) -> Words
-        ensures { result ≡ string_bytes text }
+    /// The text of `text`, without a copy of its bytes.
+    pub fn from_string(text: String) -> Result<Words, NoMemory>
+        ensures { IfOk result (λ w. w ≡ string_bytes text) }
     {
-        Words { text }
+        Ok(Words {
+            text: ArcStr::from_string(text)?,
+        })
     }
 
     /// The text.
@@ -85,20 +80,13 @@ impl Words {
         self.text.is_empty()
     }
 
-    /// A copy of this text.
-    pub fn copied(&self, alloc: Global) -> Result<Words, NoMemory>
+    /// A copy that shares the bytes. It takes no memory, and fails only at 2^63 copies.
+    pub fn copied(&self) -> Result<Words, NoMemory>
         ensures { IfOk result (λ w. w ≡ self.now) }
     {
-        Words::from_str(alloc, self.text.as_str())
-    }
-
-    /// Adds `more` at the end. Without memory the text stays as it was.
-    pub fn push_str(&mut self, more: &str) -> Result<(), NoMemory>
-        ensures ok { OnOk result (self.new ≡ self.old ++ more.now) }
-        ensures err { OnErr result (self.new ≡ self.old) }
-    {
-        self.text.push_str(more)?;
-        Ok(())
+        Ok(Words {
+            text: self.text.clone()?,
+        })
     }
 
     /// Whether both texts have the same bytes.

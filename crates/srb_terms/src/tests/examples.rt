@@ -16,18 +16,17 @@ fn diag(alloc: Global, start: u32, end: u32, number: u16, text: &str) -> Result<
 #[test]
 fn texts(rt: HostRuntime) -> Result<(), NoMemory> {
     let alloc = rt.alloc();
-    let mut text = Words::new(alloc);
-    assert!(rt; text.is_empty());
-    text.push_str("expected ")?;
-    text.push_str("Ärger")?;
-    let copy = text.copied(alloc)?;
+    assert!(rt; Words::from_str(alloc, "")?.is_empty());
+    let text = Words::from_string(String::from_str(alloc, "expected Ärger")?)?;
+    let copy = text.copied()?;
     assert_eq!(rt; copy.as_str(), "expected Ärger");
     assert_eq!(rt; copy.len(), 15);
     assert_eq!(rt; copy.as_bytes()[9], 0xc3);
     assert!(rt; copy == text && copy.is_same(&text));
     let line = format!(in alloc; "7007 {text}")?;
     assert_eq!(rt; line.as_str(), "7007 expected Ärger");
-    let name = Name::from_string(line).copied(alloc)?;
+    let name = Name::from_string(line)?.copied()?;
+    assert!(rt; Name::from_words(&text)?.as_str() == text.as_str());
     assert!(rt; name < Name::from_str(alloc, "7008")?);
     assert!(rt; !name.is_same(&Name::from_str(alloc, "7008")?));
     Ok(())
@@ -48,7 +47,7 @@ fn diagnostics_go_by_start_end_number_and_text(rt: HostRuntime) -> Result<(), No
             assert!(rt; first.cmp(second) == low.cmp(&high), "{low} and {high}");
             assert!(rt; (first == second) == (low == high), "{low} and {high}");
             assert!(rt;
-                first.is_same(&second.copied(alloc)?) == (low == high),
+                first.is_same(&second.copied()?) == (low == high),
                 "{low} and {high}"
             );
         }
@@ -72,7 +71,9 @@ fn lists_and_boxes(rt: HostRuntime) -> Result<(), NoMemory> {
     assert!(rt; !numbers.is_empty() && numbers.len() == 2);
     assert!(rt; numbers.into_vec().as_slice() == [9u8, 2].as_slice());
     let boxed = Boxed::new(alloc, 7u8)?;
-    assert!(rt; *boxed.get() == 7 && boxed.into_inner() == 7);
+    let copy = boxed.copied()?;
+    assert!(rt; *boxed.get() == 7 && boxed.into_inner() == None);
+    assert!(rt; copy.into_inner() == Some(7));
     Ok(())
 }
 

@@ -16,7 +16,7 @@ fn copied(tree: &Tree, alloc: Global) -> Result<Tree, AllocError>
     ensures { IfOk result (λ copy. copy ≡ tree.now) }
 {
     match tree {
-        Tree::Leaf(name) => Ok(Tree::Leaf(name.copied(alloc)?)),
+        Tree::Leaf(name) => Ok(Tree::Leaf(name.copied()?)),
         Tree::Turned(inner) => {
             let inner = copied(inner.get(), alloc)?;
             Ok(Tree::Turned(Boxed::new(alloc, inner)?))

@@ -12,10 +12,10 @@ use denote.HolePlaces.{Recodes, struct_places, laid, one_value}
 use denote.Hole.Fix.{over}
 use denote.Model.Placed.{view_places}
 use denote.Param.Weighed.{Weighed}
+use Rattle.std.specs.declared.sync.Arc.{Arc}
 use Rattle.std.specs.declared.alloc.Global.{Global}
-use Rattle.std.specs.declared.boxed.Box.{Box}
 use Rattle.std.specs.contracts.alloc.Global as global
-use Rattle.std.specs.contracts.boxed.Box as box
+use Rattle.std.specs.contracts.sync.Arc as arc
 use Rattle.std.specs.contracts.impls.GlobalAllocator.TheImpl.{ghosts}
 use Rattle.srb_terms.specs.declared.boxed.Boxed.TheInside.{Inside}
 use Rattle.srb_terms.specs.declared.boxed.Boxed.TheView.{view, invariant}
@@ -30,37 +30,37 @@ the_former value = value
 abbrev pub the_weighed : {value : Former {0}} → Weighed value → Weighed (the_former value)
 the_weighed measure = measure
 
--- a box's place and allocator, and the value in it
-abbrev in_box : Former {0}
-in_box = via (pair (const (Ptr × Global)) this) Inside (λ X fields. ((fields.held.ptr, fields.held.alloc), fields.held.value))
-    (λ X parts. record { held = record { ptr = parts.0.0; alloc = parts.0.1; value = parts.1 } })
+-- a shared cell's place, and the value in it
+abbrev in_arc : Former {0}
+in_arc = via (pair (const Ptr) this) Inside (λ X fields. (fields.held.ptr, fields.held.value))
+    (λ X parts. record { held = record { ptr = parts.0; value = parts.1 } })
     (λ X fields. refl) (λ X parts. refl)
 
--- the same box with another value in it
-abbrev refilled : {X Y : Type 0} → Box X Global → Y → Box Y Global
-refilled old value = record { ptr = old.ptr; alloc = old.alloc; value = value }
+-- the same cell with another value in it
+abbrev refilled : {X Y : Type 0} → Arc X Global → Y → Arc Y Global
+refilled old value = record { ptr = old.ptr; value = value }
 
--- a box of such values in the standard library
-abbrev box_row : RattleType → RattleType
-box_row Value = box.the_row Value global.the_row ghosts
+-- a shared cell of such values in the standard library
+abbrev arc_row : RattleType → RattleType
+arc_row Value = arc.the_row Value global.the_row ghosts
 
 module _ (From To : RattleType) (change : From.Denot → To.Denot) where
-  -- a box owns and lends one value, and nothing else of that value's type matters to it
-  box_placed : Alike From To change → Alike (box_row From) (box_row To) (λ b. refilled b (change b.value))
+  -- a cell owns and lends one value, and nothing else of that value's type matters to it
+  arc_placed : Alike From To change → Alike (arc_row From) (arc_row To) (λ b. refilled b (change b.value))
   unfolding part_of
-  box_placed alike = record {
-    mir_same = λ i. (box_row (one_value From (alike.mir_same i) (λ _. ftrue) (λ _ _. nothing) gnil)).mir;
-    own_same = λ b i. (box_row (one_value From (alike.mir_same i) (alike.own_same b.value i) (alike.shr_same b.value i) gnil)).own_val (refilled b tt);
-    shr_same = λ b i. (box_row (one_value From (alike.mir_same i) (alike.own_same b.value i) (alike.shr_same b.value i) gnil)).shr_at (refilled b tt);
+  arc_placed alike = record {
+    mir_same = λ i. (arc_row (one_value From (alike.mir_same i) (λ _. ftrue) (λ _ _. nothing) gnil)).mir;
+    own_same = λ b i. (arc_row (one_value From (alike.mir_same i) (alike.own_same b.value i) (alike.shr_same b.value i) gnil)).own_val (refilled b tt);
+    shr_same = λ b i. (arc_row (one_value From (alike.mir_same i) (alike.own_same b.value i) (alike.shr_same b.value i) gnil)).shr_at (refilled b tt);
   }
 
   -- it owns and lends what its value owns and lends
   pub the_places : Alike From To change
       → Alike (boxed.the_row From) (boxed.the_row To) ((the_former this).map From.Denot To.Denot change)
   the_places alike =
-      let fields = laid _ _ _ (box_placed alike) in
+      let fields = laid _ _ _ (arc_placed alike) in
       let placed = struct_places (inside.the_type From) (inside.the_type To) ((λ b. refilled b (change b.value)), tt) _ (λ _. refl) refl (fields, tt) in
-      view_places in_box this view (λ _ _ _ _. refl) (λ _ _. refl) From.Denot To.Denot change
+      view_places in_arc this view (λ _ _ _ _. refl) (λ _ _. refl) From.Denot To.Denot change
       (boxed.the_row From).coded (boxed.the_row To).coded (invariant From.Denot) (invariant To.Denot)
       (λ _ _ _. refl) (λ _ _ _. refl) (λ _ _. tt) (λ _ _. tt) (over (inside.the_row From)) (over (inside.the_row To)) placed
 

@@ -40,10 +40,13 @@ use Rattle.rb_tree.specs.declared.syntax.When.{When}
 use Rattle.rb_tree.specs.declared.syntax.PlacedName.{PlacedName}
 use Rattle.rb_tree.specs.declared.syntax.Reference.{Reference}
 use Rattle.rb_tree.specs.declared.syntax.Parameter.{Parameter}
-use Rattle.rb_tree.specs.declared.syntax.Parameter.TheVariants as parameter
-use Rattle.rb_grammar.specs.Tokens.{Is, IsAny, StartsWith, Touches, IsIdentifier, IsConstant, IsInstanceVariable, IsLabel, IsSymbol, IsWhole, IsFloat, IsText, IsBeforeNumber, IsRaised}
-use Rattle.rb_grammar.specs.Spans.{across, last_of, suffix_span, argument_span, block_or}
-use Rattle.rb_grammar.specs.Forms.{Site, Top, Member, Inside, is_top, is_open, Operates, ASSIGNMENTS, METHODS, MODIFIERS, NO_COMMAND, AreOrdered, HasNoBlock, LeavesBlock, AreParameters, AreDistinct, names_of, names_of_parameters}
+use Rattle.rb_tree.specs.declared.syntax.Guarded.{Guarded}
+use Rattle.rb_tree.specs.declared.syntax.Rescue.{Rescue}
+use Rattle.srb_terms.specs.declared.param_kind.ParamKind.{ParamKind}
+use Rattle.srb_terms.specs.declared.param_kind.ParamKind.TheVariants as param_kind
+use Rattle.rb_rules.specs.Tokens.{Is, IsAny, StartsWith, Touches, IsIdentifier, IsConstant, IsInstanceVariable, IsLabel, IsSymbol, IsWhole, IsFloat, IsText, IsBeforeNumber, IsRaised}
+use Rattle.rb_rules.specs.Spans.{across, last_of, suffix_span, argument_span, block_or}
+use Rattle.rb_rules.specs.Forms.{Site, Top, Member, Inside, is_top, is_open, Operates, ASSIGNMENTS, METHODS, MODIFIERS, NO_COMMAND, MayModify, AreOrdered, HasNoBlock, LeavesBlock, AreParameters, AreDistinct, names_of, names_of_parameters}
 
 -- ---- tables of words and operators
 
@@ -101,6 +104,9 @@ named t w = record { name = w; span = t.span }
 abbrev pub span_of_arguments : Span → List (Argument Tree) → Span
 span_of_arguments span [] = span
 span_of_arguments span (a ∷ more) = argument_span (last_of a more)
+
+abbrev pub parameter : ParamKind → List ℕ → Span → Option Tree → Parameter Tree
+parameter kind name span default = record { kind = kind; name = name; span = span; default = default }
 
 -- where a method with this `def` begins
 abbrev pub front_span : Token → Option Token → Span
@@ -162,6 +168,18 @@ pub data Owner : Bool → List Token → List Token → Type 0 where
   Other : (xs : List Token) → Owner false xs xs
   Own : (s d : Token) (xs : List Token) → Is shape.SelfWord s → Is shape.Dot d → Owner true (s ∷ d ∷ xs) xs
 
+-- ---- guards
+
+-- what stands between a body and a `rescue`: a separator, but behind an empty body
+pub data Parted : Tree → List Token → List Token → Type 0 where
+  BehindNothing : (xs : List Token) → Parted (body_of []) xs xs
+  BehindSeparator : (before : Tree) (t : Token) (xs : List Token) → Is shape.Separator t → Parted before (t ∷ xs) xs
+
+-- the variable of a `rescue`, if it has one
+pub data RescueVariable : Option PlacedName → List Token → List Token → Type 0 where
+  NoVariable : (xs : List Token) → RescueVariable None xs xs
+  Bound : (a t : Token) (w : List ℕ) (xs : List Token) → Is shape.Arrow a → IsIdentifier t w → RescueVariable (Some (named t w)) (a ∷ t ∷ xs) xs
+
 -- ---- the grammar
 
 mutual
@@ -185,7 +203,7 @@ mutual
   pub data DerivesModified : Bool → Tree → Tree → List Token → List Token → Type 0 where
     Unmodified : (free : Bool) (t : Tree) (xs : List Token) → DerivesModified free t t xs xs
     Modified : (free : Bool) (m : Token) (word : Modifier) (s c t : Tree) (xs ps ys : List Token) →
-        IsRow MODIFIER_WORDS (shape_of m.kind) word → DerivesSimple false free c xs ps →
+        IsRow MODIFIER_WORDS (shape_of m.kind) word → MayModify word s → DerivesSimple false free c xs ps →
         DerivesModified free (tree.Modified s word c (across (span_of s) (span_of c))) t ps ys → DerivesModified free s t (m ∷ xs) ys
 
   -- a simple statement; the first flag says that it may assign to a constant
@@ -360,6 +378,8 @@ mutual
     Loops : (free : Bool) (k d e : Token) (word : Test) (c body : Tree) (xs ps ys : List Token) →
         IsRow LOOP_WORDS (shape_of k.kind) word → DerivesSimple false false c xs (d ∷ ps) → IsAny (shape.Do ∷ shape.Separator ∷ []) d → DerivesBody Inside free body ps (e ∷ ys) → Is shape.End e →
         DerivesPrimary free (tree.While word c body (across k.span e.span)) e (k ∷ xs) ys
+    Begins : (free : Bool) (k e : Token) (guarded : Guarded Tree) (xs ys : List Token) → Is shape.Begin k → DerivesGuarded free guarded xs (e ∷ ys) → Is shape.End e →
+        DerivesPrimary free (tree.Begin guarded (across k.span e.span)) e (k ∷ xs) ys
     Cases : (free : Bool) (k e : Token) (subject : Option Tree) (arm : When Tree) (arms : List (When Tree)) (otherwise : Option Tree) (xs ps qs rs ys : List Token) →
         Is shape.Case k → DerivesSubject free subject xs ps → Gap ps qs → DerivesWhens free (arm ∷ arms) qs rs → DerivesElse free otherwise rs (e ∷ ys) → Is shape.End e →
         DerivesPrimary free (tree.Case subject (arm ∷ arms) otherwise (across k.span e.span)) e (k ∷ xs) ys
@@ -404,6 +424,30 @@ mutual
     LastPattern : (free : Bool) (t : Tree) (xs ys : List Token) → DerivesTerm free t xs ys → DerivesPatterns free (t ∷ []) xs ys
     MorePatterns : (free : Bool) (c : Token) (t : Tree) (more : List Tree) (xs ps ys : List Token) → DerivesTerm free t xs (c ∷ ps) → Is shape.Comma c → DerivesPatterns free more ps ys → DerivesPatterns free (t ∷ more) xs ys
 
+  -- a body and what guards it
+  pub data DerivesGuarded : Bool → Guarded Tree → List Token → List Token → Type 0 where
+    Unrescued : (free : Bool) (body : Tree) (ensure : Option Tree) (xs ps ys : List Token) → DerivesBody Inside free body xs ps → DerivesEnsure free ensure ps ys →
+        DerivesGuarded free (record { body = body; rescues = []; otherwise = None; ensure = ensure }) xs ys
+    Rescued : (free : Bool) (body : Tree) (clause : Rescue Tree) (clauses : List (Rescue Tree)) (otherwise ensure : Option Tree) (xs ps qs rs ys : List Token) →
+        DerivesBody Inside free body xs ps → DerivesRescues free body (clause ∷ clauses) ps qs → DerivesElse free otherwise qs rs → DerivesEnsure free ensure rs ys →
+        DerivesGuarded free (record { body = body; rescues = clause ∷ clauses; otherwise = otherwise; ensure = ensure }) xs ys
+
+  -- the `rescue` clauses behind the body that is given
+  pub data DerivesRescues : Bool → Tree → List (Rescue Tree) → List Token → List Token → Type 0 where
+    NoRescue : (free : Bool) (before : Tree) (xs : List Token) → DerivesRescues free before [] xs xs
+    MoreRescues : (free : Bool) (k : Token) (before : Tree) (patterns : List Tree) (variable : Option PlacedName) (body : Tree) (more : List (Rescue Tree)) (xs ps qs rs us vs ys : List Token) →
+        Parted before xs (k ∷ ps) → Is shape.Rescue k → DerivesRaised free patterns ps qs → RescueVariable variable qs rs → Then rs us → DerivesBody Inside free body us vs → DerivesRescues free body more vs ys →
+        DerivesRescues free before (record { patterns = patterns; variable = variable; body = body } ∷ more) xs ys
+
+  -- what a clause rescues, if it is told
+  pub data DerivesRaised : Bool → List Tree → List Token → List Token → Type 0 where
+    AnyError : (free : Bool) (xs : List Token) → DerivesRaised free [] xs xs
+    SomeErrors : (free : Bool) (patterns : List Tree) (xs ys : List Token) → DerivesPatterns free patterns xs ys → DerivesRaised free patterns xs ys
+
+  pub data DerivesEnsure : Bool → Option Tree → List Token → List Token → Type 0 where
+    NoEnsure : (free : Bool) (xs : List Token) → DerivesEnsure free None xs xs
+    SomeEnsure : (free : Bool) (k : Token) (body : Tree) (xs ys : List Token) → Is shape.Ensure k → DerivesBody Inside free body xs ys → DerivesEnsure free (Some body) (k ∷ xs) ys
+
   pub data DerivesDeclaration : Site → Tree → List Token → List Token → Type 0 where
     ClassOf : (at : Site) (k s e : Token) (path : List PlacedName) (superclass : Option Reference) (body : Tree) (xs ps qs ys : List Token) →
         Is shape.Class k → Path (is_top at) path xs ps → Superclass superclass ps (s ∷ qs) → Is shape.Separator s → DerivesBody Member true body qs (e ∷ ys) → Is shape.End e →
@@ -416,10 +460,10 @@ mutual
 
   -- a method, with what stands in front of its `def`
   pub data DerivesMethod : Option Visibility → Option Token → Tree → List Token → List Token → Type 0 where
-    Def : (visible : Option Visibility) (front : Option Token) (k e : Token) (own : Bool) (name : List ℕ) (name_span : Span) (parameters : List (Parameter Tree)) (body : Tree) (xs ps qs rs ys : List Token) →
+    Def : (visible : Option Visibility) (front : Option Token) (k e : Token) (own : Bool) (name : List ℕ) (name_span : Span) (parameters : List (Parameter Tree)) (guarded : Guarded Tree) (xs ps qs rs ys : List Token) →
         Is shape.Def k → Owner own xs ps → MethodName name name_span ps qs → DerivesParameters parameters qs rs → AreParameters parameters → AreDistinct (names_of_parameters parameters) →
-        DerivesBody Inside true body rs (e ∷ ys) → Is shape.End e →
-        DerivesMethod visible front (tree.Def visible own name name_span parameters body (across (front_span k front) e.span)) (k ∷ xs) ys
+        DerivesGuarded true guarded rs (e ∷ ys) → Is shape.End e →
+        DerivesMethod visible front (tree.Def visible own name name_span parameters guarded (across (front_span k front) e.span)) (k ∷ xs) ys
 
   -- parameters in brackets, or up to the end of the line
   pub data DerivesParameters : List (Parameter Tree) → List Token → List Token → Type 0 where
@@ -435,11 +479,11 @@ mutual
         DerivesParameterList bracketed more qs ys → DerivesParameterList bracketed (p ∷ more) xs ys
 
   pub data DerivesParameter : Parameter Tree → List Token → List Token → Type 0 where
-    Required : (t : Token) (w : List ℕ) (xs : List Token) → IsIdentifier t w → DerivesParameter (parameter.Required w t.span) (t ∷ xs) xs
-    Optional : (t e : Token) (w : List ℕ) (v : Tree) (xs ys : List Token) → IsIdentifier t w → Is shape.Assign e → DerivesTerm true v xs ys → DerivesParameter (parameter.Optional w t.span v) (t ∷ e ∷ xs) ys
-    RequiredKeyword : (l : Token) (w : List ℕ) (xs : List Token) → IsLabel l w → DerivesParameter (parameter.RequiredKeyword w l.span) (l ∷ xs) xs
-    OptionalKeyword : (l : Token) (w : List ℕ) (v : Tree) (xs ys : List Token) → IsLabel l w → DerivesTerm true v xs ys → DerivesParameter (parameter.OptionalKeyword w l.span v) (l ∷ xs) ys
-    BlockParameter : (a t : Token) (w : List ℕ) (xs : List Token) → Is shape.Ampersand a → IsIdentifier t w → DerivesParameter (parameter.Block w t.span) (a ∷ t ∷ xs) xs
+    Required : (t : Token) (w : List ℕ) (xs : List Token) → IsIdentifier t w → DerivesParameter (parameter param_kind.Required w t.span None) (t ∷ xs) xs
+    Optional : (t e : Token) (w : List ℕ) (v : Tree) (xs ys : List Token) → IsIdentifier t w → Is shape.Assign e → DerivesTerm true v xs ys → DerivesParameter (parameter param_kind.Optional w t.span (Some v)) (t ∷ e ∷ xs) ys
+    RequiredKeyword : (l : Token) (w : List ℕ) (xs : List Token) → IsLabel l w → DerivesParameter (parameter param_kind.Key w l.span None) (l ∷ xs) xs
+    OptionalKeyword : (l : Token) (w : List ℕ) (v : Tree) (xs ys : List Token) → IsLabel l w → DerivesTerm true v xs ys → DerivesParameter (parameter param_kind.KeyOptional w l.span (Some v)) (l ∷ xs) ys
+    BlockParameter : (a t : Token) (w : List ℕ) (xs : List Token) → Is shape.Ampersand a → IsIdentifier t w → DerivesParameter (parameter param_kind.Block w t.span None) (a ∷ t ∷ xs) xs
 
 -- ---- programs
 

@@ -2,13 +2,17 @@
 use Rattle.std.specs.Prelude.{◌≡◌, ◌≢◌, ℕ, Bool, true, false, ◌⊎◌, List, [], ◌∷◌, codes, Option, Some, None}
 use Rattle.rb_tree.specs.declared.token.Shape.{Shape}
 use Rattle.rb_tree.specs.declared.token.Shape.TheVariants as shape
-use Rattle.rb_tree.specs.declared.syntax.Tree.{Tree}
+use Rattle.srb_terms.specs.declared.param_kind.ParamKind.{ParamKind}
+use Rattle.srb_terms.specs.declared.param_kind.ParamKind.TheVariants as param_kind
+use Rattle.rb_tree.specs.declared.syntax.Tree.{Tree, out-Tree}
+use Rattle.rb_tree.specs.declared.syntax.Tree.TheOpen.{Tree-F}
 use Rattle.rb_tree.specs.declared.syntax.Binary.{Binary}
 use Rattle.rb_tree.specs.declared.syntax.Binary.TheVariants as binary
 use Rattle.rb_tree.specs.declared.syntax.Argument.{Argument}
 use Rattle.rb_tree.specs.declared.syntax.Argument.TheVariants as argument
+use Rattle.rb_tree.specs.declared.syntax.Modifier.{Modifier}
+use Rattle.rb_tree.specs.declared.syntax.Modifier.TheVariants as modifier
 use Rattle.rb_tree.specs.declared.syntax.Parameter.{Parameter}
-use Rattle.rb_tree.specs.declared.syntax.Parameter.TheVariants as parameter
 use Rattle.rb_tree.specs.declared.syntax.PlacedName.{PlacedName}
 
 -- Where statements stand: at top level, in the body of a class or module, or elsewhere. Declarations, and assignments to
@@ -90,6 +94,25 @@ NO_COMMAND =
     shape.Minus ∷ shape.Plus ∷ shape.Star ∷ shape.Power ∷ shape.Ampersand ∷ shape.Slash ∷ shape.Percent ∷ shape.OpenBracket
     ∷ shape.Scope ∷ shape.ShiftLeft ∷ shape.OpenParen ∷ shape.OpenBrace ∷ MODIFIERS
 
+-- a `begin` with its `end` alone
+abbrev pub is_begin_at : {X : Type 0} → Tree-F X → Bool
+is_begin_at (Tree-F.Begin guarded span) = true
+is_begin_at other = false
+
+unfoldable pub is_begin : Tree → Bool
+is_begin t = is_begin_at (out-Tree t)
+
+-- the words of modifiers that make a loop of what stands in front
+abbrev pub repeats : Modifier → Bool
+repeats modifier.If = false
+repeats modifier.Unless = false
+repeats modifier.While = true
+repeats modifier.Until = true
+
+-- the word may modify the statement: `while` and `until` don't stand behind a `begin` with its `end` alone
+abbrev pub MayModify : Modifier → Tree → Type 0
+MayModify word statement = (repeats word ≡ false) ⊎ (is_begin statement ≡ false)
+
 -- ---- orders
 
 -- the arguments are of these kinds in this order: by place, by name, and at most one `&` at the end
@@ -116,24 +139,32 @@ abbrev pub LeavesBlock : Option (List (Argument Tree)) → Type 0
 LeavesBlock None = Unit {0}
 LeavesBlock (Some arguments) = HasNoBlock arguments
 
--- the parameters are of these kinds in this order: required, optional, by name, and at most one block at the end
-abbrev pub EndsByBlockParameter : List (Parameter Tree) → Type 0
-EndsByBlockParameter [] = Unit {0}
-EndsByBlockParameter (parameter.Block name span ∷ []) = Unit {0}
-EndsByBlockParameter (p ∷ more) = ⊥
+-- these kinds of parameters stand in this order: required, optional, by name, and at most one block at the end
+abbrev pub EndsByBlockKind : List ParamKind → Type 0
+EndsByBlockKind [] = Unit {0}
+EndsByBlockKind (param_kind.Block ∷ []) = Unit {0}
+EndsByBlockKind (kind ∷ more) = ⊥
 
-abbrev pub AreKeywords : List (Parameter Tree) → Type 0
-AreKeywords (parameter.RequiredKeyword name span ∷ more) = AreKeywords more
-AreKeywords (parameter.OptionalKeyword name span default ∷ more) = AreKeywords more
-AreKeywords more = EndsByBlockParameter more
+abbrev pub AreKeyKinds : List ParamKind → Type 0
+AreKeyKinds (param_kind.Key ∷ more) = AreKeyKinds more
+AreKeyKinds (param_kind.KeyOptional ∷ more) = AreKeyKinds more
+AreKeyKinds more = EndsByBlockKind more
 
-abbrev pub AreOptional : List (Parameter Tree) → Type 0
-AreOptional (parameter.Optional name span default ∷ more) = AreOptional more
-AreOptional more = AreKeywords more
+abbrev pub AreOptionalKinds : List ParamKind → Type 0
+AreOptionalKinds (param_kind.Optional ∷ more) = AreOptionalKinds more
+AreOptionalKinds more = AreKeyKinds more
 
+abbrev pub AreKinds : List ParamKind → Type 0
+AreKinds (param_kind.Required ∷ more) = AreKinds more
+AreKinds more = AreOptionalKinds more
+
+abbrev pub kinds_of : List (Parameter Tree) → List ParamKind
+kinds_of [] = []
+kinds_of (p ∷ more) = p.kind ∷ kinds_of more
+
+-- the parameters are in this order
 abbrev pub AreParameters : List (Parameter Tree) → Type 0
-AreParameters (parameter.Required name span ∷ more) = AreParameters more
-AreParameters more = AreOptional more
+AreParameters parameters = AreKinds (kinds_of parameters)
 
 -- no name stands twice in the list
 abbrev pub IsNot : List ℕ → List (List ℕ) → Type 0
@@ -144,16 +175,9 @@ abbrev pub AreDistinct : List (List ℕ) → Type 0
 AreDistinct [] = Unit {0}
 AreDistinct (w ∷ ws) = IsNot w ws × AreDistinct ws
 
-abbrev pub name_of_parameter : Parameter Tree → List ℕ
-name_of_parameter (parameter.Required name span) = name
-name_of_parameter (parameter.Optional name span default) = name
-name_of_parameter (parameter.RequiredKeyword name span) = name
-name_of_parameter (parameter.OptionalKeyword name span default) = name
-name_of_parameter (parameter.Block name span) = name
-
 abbrev pub names_of_parameters : List (Parameter Tree) → List (List ℕ)
 names_of_parameters [] = []
-names_of_parameters (p ∷ more) = name_of_parameter p ∷ names_of_parameters more
+names_of_parameters (p ∷ more) = p.name ∷ names_of_parameters more
 
 abbrev pub names_of : List PlacedName → List (List ℕ)
 names_of [] = []

@@ -1,0 +1,4 @@
+pub mod Tokens
+pub mod Spans
+pub mod Forms
+pub mod Grammar
