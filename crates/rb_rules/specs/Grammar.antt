@@ -378,7 +378,7 @@ mutual
     Loops : (free : Bool) (k d e : Token) (word : Test) (c body : Tree) (xs ps ys : List Token) →
         IsRow LOOP_WORDS (shape_of k.kind) word → DerivesSimple false false c xs (d ∷ ps) → IsAny (shape.Do ∷ shape.Separator ∷ []) d → DerivesBody Inside free body ps (e ∷ ys) → Is shape.End e →
         DerivesPrimary free (tree.While word c body (across k.span e.span)) e (k ∷ xs) ys
-    Begins : (free : Bool) (k e : Token) (guarded : Guarded Tree) (xs ys : List Token) → Is shape.Begin k → DerivesGuarded free guarded xs (e ∷ ys) → Is shape.End e →
+    Guards : (free : Bool) (k e : Token) (guarded : Guarded Tree) (xs ys : List Token) → Is shape.Begin k → DerivesGuarded free guarded xs (e ∷ ys) → Is shape.End e →
         DerivesPrimary free (tree.Begin guarded (across k.span e.span)) e (k ∷ xs) ys
     Cases : (free : Bool) (k e : Token) (subject : Option Tree) (arm : When Tree) (arms : List (When Tree)) (otherwise : Option Tree) (xs ps qs rs ys : List Token) →
         Is shape.Case k → DerivesSubject free subject xs ps → Gap ps qs → DerivesWhens free (arm ∷ arms) qs rs → DerivesElse free otherwise rs (e ∷ ys) → Is shape.End e →
