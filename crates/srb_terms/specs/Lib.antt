@@ -1,4 +1,6 @@
 pub mod DiagOrder
+pub mod NameLists
+pub mod NameSets
 pub mod formers
 pub mod Projects
 pub mod Statuses
