@@ -1,8 +1,9 @@
--- Methods: `def`, perhaps `self.`, a name, parameters, a body and `end`, and perhaps a visibility in front.
+-- Methods: `def`, perhaps `self.`, a name, parameters, a body with what guards it, and `end`, and perhaps a visibility in front.
 use Rattle.std.specs.Prelude.{◌≡◌, ℕ, Bool, true, false, ◌==◌, if◌then◌else◌, List, [], ◌∷◌, ◌++◌, length, Option, Some, None, is_some, Ok, Err, codes}
 use Rattle.std.specs.Str.{bytes_eq}
 use Rattle.srb_terms.specs.declared.span.Span.{Span}
 use Rattle.rb_tree.specs.Tokens.{shape_of}
+use Rattle.rb_tree.specs.declared.syntax.Guarded.{Guarded}
 use Rattle.rb_tree.specs.declared.syntax.Tree.{Tree}
 use Rattle.rb_tree.specs.declared.syntax.Tree.TheVariants as tree
 use Rattle.rb_tree.specs.declared.syntax.PlacedName.{PlacedName}
@@ -14,7 +15,7 @@ use Rattle.rb_tree.specs.declared.token.TokenKind.TheVariants as kind
 use Rattle.rb_tree.specs.declared.token.Shape.{Shape}
 use Rattle.rb_tree.specs.declared.token.Shape.TheVariants as shape
 use Rattle.rb_expr.specs.Reading.{Outcome, Parser, ◌>>=◌, ◌>>◌, pure, refuse, sees, after, expect}
-use Rattle.rb_expr.specs.Rules.{body}
+use Rattle.rb_expr.specs.Rules.{guarded}
 use Rattle.rb_decl.specs.Parameters.{parameters_of}
 use Rattle.rb_decl.specs.declared.method.Head.{Head}
 
@@ -106,16 +107,16 @@ method_head d visibility start = do
   found ← parameters_of d
   pure (record { visibility = visibility; start = start; own = own; name = name; parameters = found })
 
-abbrev pub tree_of : Head → Tree → ℕ → Tree
-tree_of h body end = tree.Def h.visibility h.own h.name.name h.name.span h.parameters body (record { start = h.start; end = end })
+abbrev pub tree_of : Head → Guarded Tree → ℕ → Tree
+tree_of h guarded end = tree.Def h.visibility h.own h.name.name h.name.span h.parameters guarded (record { start = h.start; end = end })
 
 -- a method from its `def` on
 unfoldable pub defined : ℕ → Option Visibility → ℕ → Parser Tree
 defined d visibility start = do
   h ← method_head d visibility start
-  b ← body d
+  found ← guarded d
   end ← expect shape.End
-  pure (tree_of h b end.end)
+  pure (tree_of h found end.end)
 
 -- where the next token begins
 abbrev pub start_of : List Token → ℕ

@@ -2,10 +2,11 @@
 use Rattle.std.specs.Prelude.{◌≡◌, ℕ, zero, suc, Bool, true, false, not, ◌&&◌, ◌||◌, if◌then◌else◌, List, [], ◌∷◌, ◌++◌, Option, Some, None, Ok, Err}
 use Rattle.std.specs.Str.{bytes_eq}
 use Rattle.std.specs.List.{list_any}
+use Rattle.srb_terms.specs.declared.param_kind.ParamKind.{ParamKind}
+use Rattle.srb_terms.specs.declared.param_kind.ParamKind.TheVariants as param_kind
 use Rattle.srb_terms.specs.declared.span.Span.{Span}
 use Rattle.rb_tree.specs.declared.syntax.Tree.{Tree}
 use Rattle.rb_tree.specs.declared.syntax.Parameter.{Parameter}
-use Rattle.rb_tree.specs.declared.syntax.Parameter.TheVariants as parameters
 use Rattle.rb_tree.specs.declared.token.Token.{Token}
 use Rattle.rb_tree.specs.declared.token.TokenKind.{TokenKind}
 use Rattle.rb_tree.specs.declared.token.TokenKind.TheVariants as kind
@@ -17,19 +18,14 @@ use Rattle.rb_decl.specs.declared.parameter.Stage.TheVariants as stages
 
 -- ---- what the parameters so far say about the next one
 
-abbrev pub name_of : Parameter Tree → List ℕ
-name_of (parameters.Required name span) = name
-name_of (parameters.Optional name span default) = name
-name_of (parameters.RequiredKeyword name span) = name
-name_of (parameters.OptionalKeyword name span default) = name
-name_of (parameters.Block name span) = name
-
-abbrev pub stage_behind : Parameter Tree → Stage
-stage_behind (parameters.Required name span) = stages.Required
-stage_behind (parameters.Optional name span default) = stages.Optional
-stage_behind (parameters.RequiredKeyword name span) = stages.Keyword
-stage_behind (parameters.OptionalKeyword name span default) = stages.Keyword
-stage_behind (parameters.Block name span) = stages.Block
+-- which parameters may come behind one of this kind
+abbrev pub stage_behind : ParamKind → Stage
+stage_behind param_kind.Required = stages.Required
+stage_behind param_kind.Optional = stages.Optional
+stage_behind param_kind.Key = stages.Keyword
+stage_behind param_kind.KeyOptional = stages.Keyword
+stage_behind param_kind.Block = stages.Block
+stage_behind param_kind.Rest = stages.Keyword
 
 -- the name is one of these
 abbrev pub is_among : List (List ℕ) → List ℕ → Bool
@@ -61,11 +57,14 @@ is_last _ = false
 
 -- ---- one parameter
 
+abbrev pub parameter_of : ParamKind → List ℕ → Span → Option Tree → Parameter Tree
+parameter_of k name span default = record { kind = k; name = name; span = span; default = default }
+
 -- behind the name of a parameter that is no keyword
 unfoldable pub plain : ℕ → Stage → List ℕ → Span → Parser (Parameter Tree)
 plain d stage words span = λ i.
-    if sees shape.Assign i then (tern d >>= (λ default. pure (parameters.Optional words span default))) (after i)
-    else (if is_first stage then Ok (parameters.Required words span, i) else Err i)
+    if sees shape.Assign i then (tern d >>= (λ default. pure (parameter_of param_kind.Optional words span (Some default)))) (after i)
+    else (if is_first stage then Ok (parameter_of param_kind.Required words span None, i) else Err i)
 
 -- no default stands behind the label of a keyword
 abbrev pub has_no_default : List Token → Bool
@@ -74,11 +73,11 @@ has_no_default i = sees shape.Comma i || sees shape.CloseParen i || sees shape.S
 -- behind the label of a keyword
 unfoldable pub keyword : ℕ → List ℕ → Span → Parser (Parameter Tree)
 keyword d words span = λ i.
-    if has_no_default i then Ok (parameters.RequiredKeyword words span, i)
-    else (tern d >>= (λ default. pure (parameters.OptionalKeyword words span default))) i
+    if has_no_default i then Ok (parameter_of param_kind.Key words span None, i)
+    else (tern d >>= (λ default. pure (parameter_of param_kind.KeyOptional words span (Some default)))) i
 
 abbrev block_by : Token → List Token → Option (List ℕ) → Outcome (Parameter Tree)
-block_by t ts (Some name) = Ok (parameters.Block name t.span, ts)
+block_by t ts (Some name) = Ok (parameter_of param_kind.Block name t.span None, ts)
 block_by t ts None = Err (t ∷ ts)
 
 abbrev block_as : List (List ℕ) → Token → List Token → TokenKind → Outcome (Parameter Tree)
@@ -124,8 +123,8 @@ unfoldable pub row_from : ℕ → Bool → ℕ → Stage → List (List ℕ) →
 row_from d in_brackets zero stage names found = refuse
 row_from d in_brackets (suc n) stage names found =
     parameter d stage names >>= (λ x i.
-    if is_over (stage_behind x) i then Ok (found ++ x ∷ [], i)
-    else row_from d in_brackets n (stage_behind x) (noted names (name_of x)) (found ++ x ∷ []) (behind_comma in_brackets i))
+    if is_over (stage_behind x.kind) i then Ok (found ++ x ∷ [], i)
+    else row_from d in_brackets n (stage_behind x.kind) (noted names x.name) (found ++ x ∷ []) (behind_comma in_brackets i))
 
 -- one or more parameters with commas between
 unfoldable pub row : ℕ → Bool → Parser (List (Parameter Tree))

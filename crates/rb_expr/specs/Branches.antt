@@ -1,7 +1,10 @@
--- `if`, `unless`, `while`, `until` and `case`, each with its `end`.
+-- `if`, `unless`, `while`, `until`, `case` and `begin`, each with its `end`.
 use Rattle.std.specs.Prelude.{ℕ, zero, suc, Bool, true, false, ◌||◌, if◌then◌else◌, List, [], ◌∷◌, ◌++◌, Option, Some, None, Ok}
 use Rattle.srb_terms.specs.declared.span.Span.{Span}
 use Rattle.rb_tree.specs.declared.syntax.Arm.{Arm}
+use Rattle.rb_tree.specs.declared.syntax.Guarded.{Guarded}
+use Rattle.rb_tree.specs.declared.syntax.PlacedName.{PlacedName}
+use Rattle.rb_tree.specs.declared.syntax.Rescue.{Rescue}
 use Rattle.rb_tree.specs.declared.syntax.Test.{Test}
 use Rattle.rb_tree.specs.declared.syntax.Test.TheVariants as test
 use Rattle.rb_tree.specs.declared.syntax.Tree.{Tree}
@@ -12,7 +15,7 @@ use Rattle.rb_tree.specs.declared.token.Shape.{Shape}
 use Rattle.rb_tree.specs.declared.token.Shape.TheVariants as shape
 use Rattle.rb_expr.specs.declared.form.Form.{Form}
 use Rattle.rb_expr.specs.declared.form.Form.TheVariants as form
-use Rattle.rb_expr.specs.Reading.{Parser, ◌>>=◌, ◌>>◌, ◌<$>◌, pure, refuse, sees, after, skip_separators, take_token, expect}
+use Rattle.rb_expr.specs.Reading.{Parser, ◌>>=◌, ◌>>◌, ◌<$>◌, pure, refuse, sees, after, skip_separators, take_token, expect, named}
 
 -- a `then` behind a separator, if one comes next
 abbrev pub after_then : List Token → List Token
@@ -26,6 +29,14 @@ then_word = λ tokens. if sees shape.Then tokens then expect shape.Then tokens
 -- `do`, or one separator
 unfoldable pub do_word : Parser Span
 do_word = λ tokens. if sees shape.Do tokens then expect shape.Do tokens else expect shape.Separator tokens
+
+-- no pattern stands behind a `rescue`
+unfoldable pub rescues_all : List Token → Bool
+rescues_all tokens = sees shape.Arrow tokens || (sees shape.Then tokens || sees shape.Separator tokens)
+
+-- `=>` and the variable of a `rescue`, if `=>` comes next
+unfoldable pub rescue_variable : Parser (Option PlacedName)
+rescue_variable = λ tokens. if sees shape.Arrow tokens then (Some <$> named shape.Identifier) (after tokens) else Ok (None, tokens)
 
 -- `nested` reads a form that nests: the flag says whether its calls may take a `do`. Loops take at most `turns` turns. Calls
 -- that stand here may take a `do` where `takes_do` says so.
@@ -114,3 +125,48 @@ module _ (nested : Form → Bool → Parser Tree) (turns : ℕ) (takes_do : Bool
     other ← otherwise
     closing ← expect shape.End
     pure (tree.Case given arms other (record { start = mark.start; end = closing.end }))
+
+  -- what a `rescue` rescues, if it is told
+  unfoldable pub raised : Parser (List Tree)
+  raised = λ tokens. if rescues_all tokens then Ok ([], tokens) else patterns tokens
+
+  unfoldable pub rescue_clause : Parser (Rescue Tree)
+  rescue_clause = do
+    expect shape.Rescue
+    found ← raised
+    variable ← rescue_variable
+    then_word
+    body ← nested form.Body takes_do
+    pure (record { patterns = found; variable = variable; body = body })
+
+  unfoldable pub rescues_from : ℕ → List (Rescue Tree) → Parser (List (Rescue Tree))
+  rescues_from zero found = refuse
+  rescues_from (suc n) found = λ tokens.
+      if sees shape.Rescue tokens then (do clause ← rescue_clause; rescues_from n (found ++ clause ∷ [])) tokens else Ok (found, tokens)
+
+  unfoldable pub rescues : Parser (List (Rescue Tree))
+  rescues = rescues_from turns []
+
+  -- an `else` stands behind a `rescue` alone
+  unfoldable pub otherwise_behind : List (Rescue Tree) → Parser (Option Tree)
+  otherwise_behind [] = pure None
+  otherwise_behind (clause ∷ clauses) = otherwise
+
+  unfoldable pub ensure : Parser (Option Tree)
+  ensure = λ tokens. if sees shape.Ensure tokens then (Some <$> nested form.Body takes_do) (after tokens) else Ok (None, tokens)
+
+  -- a body and what guards it
+  unfoldable pub guarded : Parser (Guarded Tree)
+  guarded = do
+    body ← nested form.Body takes_do
+    clauses ← rescues
+    other ← otherwise_behind clauses
+    last ← ensure
+    pure (record { body = body; rescues = clauses; otherwise = other; ensure = last })
+
+  unfoldable pub guards : Parser Tree
+  guards = do
+    mark ← take_token
+    found ← guarded
+    closing ← expect shape.End
+    pure (tree.Begin found (record { start = mark.start; end = closing.end }))

@@ -23,7 +23,7 @@ use Rattle.rb_tree.specs.declared.token.Shape.{Shape}
 use Rattle.rb_tree.specs.declared.token.Shape.TheVariants as shape
 use Rattle.rb_expr.specs.declared.form.Form.{Form}
 use Rattle.rb_expr.specs.declared.form.Form.TheVariants as form
-use Rattle.rb_expr.specs.Branches.{branch, repeated, choice}
+use Rattle.rb_expr.specs.Branches.{branch, repeated, choice, guards}
 use Rattle.rb_expr.specs.Calls.{index_arguments, optional_brackets, optional_block}
 use Rattle.rb_expr.specs.Lists.{behind_element, span_of_suffix, end_with}
 use Rattle.rb_expr.specs.Reading.{Parser, ◌>>=◌, ◌>>◌, ◌<$>◌, pure, refuse, peek, sees, start_of, after, skip_separators, take_token, expect, named, worded}
@@ -252,6 +252,7 @@ module _ (nested : Form → Bool → Parser Tree) (turns : ℕ) (takes_do : Bool
   primary_by (Some shape.While) = repeated nested turns takes_do test.Positive
   primary_by (Some shape.Until) = repeated nested turns takes_do test.Negative
   primary_by (Some shape.Case) = choice nested turns takes_do
+  primary_by (Some shape.Begin) = guards nested turns takes_do
   primary_by _ = refuse
 
   unfoldable pub primary : Parser Tree

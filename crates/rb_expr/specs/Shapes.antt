@@ -37,6 +37,7 @@ begins_bare shape.False = true
 begins_bare shape.Yield = true
 begins_bare shape.Super = true
 begins_bare shape.Case = true
+begins_bare shape.Begin = true
 begins_bare _ = false
 
 -- the value of a jump

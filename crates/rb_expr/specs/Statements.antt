@@ -1,5 +1,5 @@
 -- Statements that are no declarations, and bodies of them.
-use Rattle.std.specs.Prelude.{ℕ, zero, suc, ◌-◌, Bool, true, false, ◌&&◌, ◌||◌, if◌then◌else◌, List, [], ◌∷◌, ◌++◌, length, slice_get, Option, Some, None, Ok}
+use Rattle.std.specs.Prelude.{ℕ, zero, suc, ◌-◌, Bool, true, false, not, ◌&&◌, ◌||◌, if◌then◌else◌, List, [], ◌∷◌, ◌++◌, length, slice_get, Option, Some, None, Ok}
 use Rattle.srb_terms.specs.declared.span.Span.{Span}
 use Rattle.rb_tree.specs.Trees.{span_of}
 use Rattle.rb_tree.specs.declared.syntax.Argument.{Argument}
@@ -7,6 +7,7 @@ use Rattle.rb_tree.specs.declared.syntax.Binary.{Binary}
 use Rattle.rb_tree.specs.declared.syntax.Dot.TheVariants as dot
 use Rattle.rb_tree.specs.declared.syntax.Jump.{Jump}
 use Rattle.rb_tree.specs.declared.syntax.Modifier.{Modifier}
+use Rattle.rb_tree.specs.declared.syntax.Modifier.TheVariants as modifier
 use Rattle.rb_tree.specs.declared.syntax.Suffix.{Suffix}
 use Rattle.rb_tree.specs.declared.syntax.Suffix.TheVariants as suffix
 use Rattle.rb_tree.specs.declared.syntax.Tree.{Tree, out-Tree}
@@ -89,6 +90,33 @@ follower_by constants end next = operator_follower end next (assigning_of next)
 unfoldable pub follower_of : Bool → Ending → Option Shape → Follower
 follower_of constants end next = follower_by constants end next
 
+-- what a modifier may not make a loop of: a `begin` with its `end` alone
+abbrev pub is_begin_at : {X : Type 0} → Tree-F X → Bool
+is_begin_at (Tree-F.Begin guarded span) = true
+is_begin_at _ = false
+
+unfoldable pub is_begin : Tree → Bool
+is_begin inner = is_begin_at (out-Tree inner)
+
+-- the modifier makes a loop
+abbrev pub repeats : Modifier → Bool
+repeats modifier.If = false
+repeats modifier.Unless = false
+repeats modifier.While = true
+repeats modifier.Until = true
+
+-- the modifier may stand behind the statement
+unfoldable pub may_modify : Modifier → Tree → Bool
+may_modify word inner = not (repeats word) || not (is_begin inner)
+
+abbrev pub allowed : Tree → Option Modifier → Option Modifier
+allowed inner None = None
+allowed inner (Some word) = if may_modify word inner then Some word else None
+
+-- the modifier that the next token is, if it may stand behind the statement
+unfoldable pub modifier_behind : Tree → Option Shape → Option Modifier
+modifier_behind inner next = allowed inner (modifier_of next)
+
 -- where a tree ends, or the place where none is
 abbrev pub end_or : ℕ → Option Tree → ℕ
 end_or end None = end
@@ -97,6 +125,10 @@ end_or end (Some value) = (span_of value).end
 -- the place of a body begins with its first statement; that of an empty body is 0 to 0
 abbrev pub body_start : List Token → ℕ
 body_start tokens = if begins_statement tokens then start_of tokens else 0
+
+-- a body of these statements ends behind the last: a `rescue` does not stand there without a separator
+unfoldable pub ended : List Tree → Span → Parser Tree
+ended found span = λ tokens. if sees shape.Rescue tokens then refuse tokens else Ok (tree.Body found span, tokens)
 
 -- ---- statements
 
@@ -169,7 +201,7 @@ module _ (nested : Form → Bool → Parser Tree) (turns : ℕ) (takes_do : Bool
 
   unfoldable pub modifiers_from : ℕ → Tree → Parser Tree
   modifiers_from zero inner = refuse
-  modifiers_from (suc n) inner = λ tokens. modifiers_by (modifiers_from n) inner (modifier_of (peek tokens)) tokens
+  modifiers_from (suc n) inner = λ tokens. modifiers_by (modifiers_from n) inner (modifier_behind inner (peek tokens)) tokens
 
   unfoldable pub modifiers : Tree → Parser Tree
   modifiers inner = modifiers_from turns inner
@@ -188,7 +220,7 @@ module _ (nested : Form → Bool → Parser Tree) (turns : ℕ) (takes_do : Bool
         next ← statement constants
         (λ rest. if sees shape.Separator rest
             then body_from constants start (span_of next).end n (found ++ next ∷ []) (skip_separators rest)
-            else Ok (tree.Body (found ++ next ∷ []) (record { start = start; end = (span_of next).end }), rest))) tokens
+            else ended (found ++ next ∷ []) (record { start = start; end = (span_of next).end }) rest)) tokens
       else Ok (tree.Body found (record { start = start; end = end }), tokens)
 
   unfoldable pub statements : Bool → Parser Tree

@@ -18,7 +18,7 @@ use Rattle.rb_weight.specs.declared.effect.Effect.{Effect}
 use Rattle.rb_weight.specs.declared.effect.Effect.TheVariants as effect
 use Rattle.rb_weight.specs.declared.scan.Outer.{Outer}
 use Rattle.rb_weight.specs.declared.scan.Scan.{Scan}
-use Rattle.rb_weight.specs.declared.TheConstants.{MOST}
+use Rattle.rb_weight.specs.Limits.{MOST}
 
 -- ---- the last element of a list
 

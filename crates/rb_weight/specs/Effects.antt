@@ -79,7 +79,16 @@ behind_plain b l sort.Brace = before.Block
 behind_plain b l sort.Do = before.Block
 behind_plain b l sort.Def = before.Def
 behind_plain b l sort.Pipe = (if is_block b then before.Bars else before.Plain)
-behind_plain b l _ = before.Plain
+behind_plain b l sort.Open = before.Plain
+behind_plain b l sort.Paren = before.Plain
+behind_plain b l sort.Choice = before.Plain
+behind_plain b l sort.Loop = before.Plain
+behind_plain b l sort.Separator = before.Plain
+behind_plain b l sort.Divider = before.Plain
+behind_plain b l sort.Operator = before.Plain
+behind_plain b l sort.Dot = before.Plain
+behind_plain b l sort.Assign = before.Plain
+behind_plain b l sort.Other = before.Plain
 
 -- behind `def`: `self`, or a method's name
 abbrev pub behind_def : Sort → Before

@@ -1,4 +1,5 @@
 pub mod Effects
+pub mod Limits
 pub mod Scans
 pub mod Sorts
 pub mod Weights

@@ -11,10 +11,10 @@ use Rattle.rb_weight.specs.declared.effect.Level.{Level}
 use Rattle.rb_weight.specs.declared.effect.Level.TheVariants as level
 use Rattle.rb_weight.specs.declared.effect.Effect.{Effect}
 use Rattle.rb_weight.specs.declared.effect.Effect.TheVariants as effect
-use Rattle.rb_weight.specs.declared.TheConstants.{MOST}
+use Rattle.rb_weight.specs.Limits.{MOST}
 
 -- an open level: its kind, and how many operators and modifiers stand directly in it behind its last separator, `,`, `then`,
--- `else`, `elsif` or `when`
+-- `else`, `elsif`, `when`, `rescue` or `ensure`
 pub record Open : Type 0 where
   pub level : Level
   pub standing : ℕ
