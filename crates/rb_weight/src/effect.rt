@@ -198,7 +198,16 @@ fn behind_plain(before: Before, level: Level, sort: Sort) -> Before
                 Before::Plain
             }
         }
-        _ => Before::Plain,
+        Sort::Open
+        | Sort::Paren
+        | Sort::Choice
+        | Sort::Loop
+        | Sort::Separator
+        | Sort::Divider
+        | Sort::Operator
+        | Sort::Dot
+        | Sort::Assign
+        | Sort::Other => Before::Plain,
     }
 }
 

@@ -1,13 +1,14 @@
 //! The weight of Ruby tokens: how deep what is open behind a token nests. A parser that reads no further than the first token
 //! at which the weight passes 200 recurses no deeper than that, whatever the input.
 //!
-//! A level opens at `(`, `[`, `{`, `#{`, `class`, `module`, `def`, `do`, `case` and at an `if`, `unless`, `while` or `until`
-//! that is no modifier, and closes at its end; the `do` of a `while` or `until` opens none. The weight behind a token is the
+//! A level opens at `(`, `[`, `{`, `#{`, `class`, `module`, `def`, `do`, `case`, `begin` and at an `if`, `unless`, `while` or
+//! `until` that is no modifier, and closes at its end; the `do` of a `while` or `until` opens none. The weight behind a token is the
 //! number of open levels and of the operators that stand directly in them behind their last separator. `first_too_deep` is the
 //! definition `first_too_deep`, and `DeepAt` says what place that is.
 #![tactic(auto)]
 
 ghost use Rattle.std.specs.Prelude.{◌≡◌, ◌≤◌, IfOk, drop, length};
+ghost use Rattle.rb_weight.specs.Limits as limits;
 ghost use Rattle.rb_weight.specs.Scans as spec;
 ghost use Rattle.rb_weight.specs.Weights.{IsFirstDeep};
 
@@ -22,7 +23,7 @@ use scan::{Scan, deep_from};
 use srb_terms::NoMemory;
 use std::alloc::Global;
 
-/// The greatest weight that a program may have.
+/// The greatest weight that a program may have, the number `limits.MOST` of the contracts.
 pub const MOST: u32 = 200;
 
 /// The tokens from the place `from` on.
@@ -47,7 +48,7 @@ pub fn first_too_deep(
 ) -> Result<Option<usize>, NoMemory>
     requires within { from ≤ length tokens.now }
     requires part { here ≤ weight }
-    requires light { weight ≤ MOST }
+    requires light { weight ≤ limits.MOST }
     ensures value { IfOk result (λ place. place ≡ spec.first_too_deep tokens.now from weight here) }
     ensures first { IfOk result (λ place. IsFirstDeep tokens.now from weight here place) }
 {

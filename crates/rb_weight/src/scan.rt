@@ -1,6 +1,7 @@
 //! The weight behind the tokens of a pass from the front.
 
 ghost use Rattle.std.specs.Prelude.{◌≡◌, ◌<◌, ◌≤◌, ◌+◌, ◌^◌, IfOk, length};
+ghost use Rattle.rb_weight.specs.Limits as limits;
 ghost use Rattle.rb_weight.specs.Scans as spec;
 
 use crate::MOST;
@@ -50,7 +51,7 @@ impl Scan {
     }
 
     fn open(&mut self, level: Level) -> Result<(), NoMemory>
-        requires { self.old.weight ≤ MOST }
+        requires { self.old.weight ≤ limits.MOST }
         ensures { IfOk result (λ _. self.new ≡ spec.opened level self.old) }
     {
         self.outer.push(Outer {
@@ -82,7 +83,7 @@ impl Scan {
     /// Counts an effect. The answer is false where the level that stood open at the start closes.
     #[tactic(auto, unfolding(crate::specs::Scans::done))]
     fn apply(&mut self, effect: Effect) -> Result<bool, NoMemory>
-        requires { self.old.weight ≤ MOST }
+        requires { self.old.weight ≤ limits.MOST }
         ensures { IfOk result (λ goes. spec.Goes goes self.new (spec.done effect self.old)) }
     {
         match effect {
@@ -102,7 +103,7 @@ impl Scan {
 
     /// Counts a token. The answer is false where the level that stood open at the start closes.
     pub fn step(&mut self, shape: Shape) -> Result<bool, NoMemory>
-        requires { self.old.weight ≤ MOST }
+        requires { self.old.weight ≤ limits.MOST }
         ensures { IfOk result (λ goes. spec.Goes goes self.new (spec.step shape self.old)) }
     {
         let sort = sort_of(shape);
@@ -114,7 +115,7 @@ impl Scan {
 
 /// The place of the first of these tokens behind which the weight is over the greatest, the first of them standing at `at`.
 pub fn deep_from(start: Scan, at: usize, tokens: &[Token]) -> Result<Option<usize>, NoMemory>
-    requires light { start.weight ≤ MOST }
+    requires light { start.weight ≤ limits.MOST }
     requires fits { at + length tokens.now < 2 ^ 64 }
     ensures { IfOk result (λ place. place ≡ spec.deep_from at start tokens.now) }
 {

@@ -14,7 +14,7 @@ pub enum Sort {
     SelfWord,
     /// `)`, `]`, `}` or `end`.
     Close,
-    /// `[`, `#{`, `class`, `module` or `case`.
+    /// `[`, `#{`, `class`, `module`, `case` or `begin`.
     Open,
     /// `(`.
     Paren,
@@ -30,7 +30,7 @@ pub enum Sort {
     Loop,
     /// A line's end or `;`.
     Separator,
-    /// `,`, `then`, `else`, `elsif` or `when`.
+    /// `,`, `then`, `else`, `elsif`, `when`, `rescue` or `ensure`.
     Divider,
     /// An operator that counts, other than the next two.
     Operator,
@@ -67,8 +67,12 @@ pub fn sort_of(shape: Shape) -> Sort
         | Shape::Super => Sort::Operand,
         Shape::SelfWord => Sort::SelfWord,
         Shape::End | Shape::CloseParen | Shape::CloseBracket | Shape::CloseBrace => Sort::Close,
-        Shape::OpenBracket | Shape::Interpolation | Shape::Class | Shape::Module | Shape::Case =>
-            Sort::Open,
+        Shape::OpenBracket
+        | Shape::Interpolation
+        | Shape::Class
+        | Shape::Module
+        | Shape::Case
+        | Shape::Begin => Sort::Open,
         Shape::OpenParen => Sort::Paren,
         Shape::OpenBrace => Sort::Brace,
         Shape::Do => Sort::Do,
@@ -76,11 +80,49 @@ pub fn sort_of(shape: Shape) -> Sort
         Shape::If | Shape::Unless => Sort::Choice,
         Shape::While | Shape::Until => Sort::Loop,
         Shape::Separator => Sort::Separator,
-        Shape::Comma | Shape::Then | Shape::Else | Shape::Elsif | Shape::When => Sort::Divider,
+        Shape::Comma
+        | Shape::Then
+        | Shape::Else
+        | Shape::Elsif
+        | Shape::When
+        | Shape::Rescue
+        | Shape::Ensure => Sort::Divider,
         Shape::Dot => Sort::Dot,
         Shape::Assign => Sort::Assign,
         Shape::Pipe => Sort::Pipe,
         Shape::Label | Shape::Arrow | Shape::Scope => Sort::Other,
-        _ => Sort::Operator,
+        Shape::Plus | Shape::Minus | Shape::Star | Shape::Slash | Shape::Percent | Shape::Power =>
+            Sort::Operator,
+        Shape::Equal
+        | Shape::NotEqual
+        | Shape::CaseEqual
+        | Shape::Compare
+        | Shape::Less
+        | Shape::Greater
+        | Shape::LessEqual
+        | Shape::GreaterEqual => Sort::Operator,
+        Shape::AndAnd
+        | Shape::OrOr
+        | Shape::Not
+        | Shape::Tilde
+        | Shape::Ampersand
+        | Shape::Caret
+        | Shape::ShiftLeft
+        | Shape::ShiftRight => Sort::Operator,
+        Shape::Question | Shape::Colon | Shape::SafeDot => Sort::Operator,
+        Shape::PlusAssign
+        | Shape::MinusAssign
+        | Shape::StarAssign
+        | Shape::SlashAssign
+        | Shape::PercentAssign
+        | Shape::PowerAssign
+        | Shape::OrAssign
+        | Shape::AndAssign
+        | Shape::PipeAssign
+        | Shape::AmpersandAssign
+        | Shape::CaretAssign
+        | Shape::ShiftLeftAssign
+        | Shape::ShiftRightAssign => Sort::Operator,
+        Shape::UnaryMinus | Shape::UnaryPlus | Shape::Index | Shape::IndexAssign => Sort::Operator,
     }
 }

@@ -4,12 +4,12 @@ use srb_terms::{Span, Words};
 use std::process::Abort;
 use std::test::Fail;
 
-fn kind_of(alloc: Global, shape: Shape) -> TokenKind {
+fn kind_of(alloc: Global, shape: Shape) -> Result<TokenKind, NoMemory> {
     match shape.plain() {
-        Some(kind) => kind,
-        None => TokenKind::Identifier {
-            words: Words::new(alloc),
-        },
+        Some(kind) => Ok(kind),
+        None => Ok(TokenKind::Identifier {
+            words: Words::from_str(alloc, "")?,
+        }),
     }
 }
 
@@ -17,7 +17,7 @@ fn tokens_of(alloc: Global, shapes: &[Shape]) -> Result<Vec<Token>, Fail> {
     let mut tokens = Vec::new(alloc);
     for shape in shapes {
         tokens.push(Token {
-            kind: kind_of(alloc, *shape),
+            kind: kind_of(alloc, *shape)?,
             span: Span { start: 0, end: 0 },
         })?;
     }
@@ -38,8 +38,9 @@ fn place_from<R: Abort + AllocGlobal>(
 #[test]
 fn levels_and_operators_weigh(rt: HostRuntime) -> Result<(), Fail> {
     use Shape::{
-        Assign, Class, CloseParen, Constant, Def, Do, End, Identifier as X, If, OpenBrace,
-        OpenBracket, OpenParen, Pipe, Plus, Return, Scope, Separator, Then, While,
+        Assign, Begin, Class, CloseParen, Constant, Def, Do, End, Ensure, Identifier as X, If,
+        OpenBrace, OpenBracket, OpenParen, Pipe, Plus, Rescue, Return, Scope, Separator, Then,
+        While,
     };
     let cases: &[(u32, &[Shape], Option<usize>)] = &[
         (200, &[X, Separator, X], None),
@@ -60,6 +61,17 @@ fn levels_and_operators_weigh(rt: HostRuntime) -> Result<(), Fail> {
             Some(7),
         ),
         (200, &[X, End, OpenBracket], None),
+        (200, &[X, Begin], Some(1)),
+        (199, &[Begin, End, Begin, X], None),
+        (199, &[Begin, If], Some(1)),
+        (199, &[Begin, End, If, X, If], Some(4)),
+        (
+            198,
+            &[
+                Begin, X, Plus, X, Rescue, X, Plus, X, Ensure, X, Plus, X, Plus,
+            ],
+            Some(12),
+        ),
     ];
     for (weight, shapes, expected) in cases {
         assert!(&rt;
