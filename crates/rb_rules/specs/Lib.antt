@@ -1,4 +1,10 @@
-pub mod Tokens
-pub mod Spans
+pub mod Before
 pub mod Forms
 pub mod Grammar
+pub mod Letters
+pub mod Levels
+pub mod Lexes
+pub mod Numerals
+pub mod Spans
+pub mod Spellings
+pub mod Tokens
