@@ -160,8 +160,8 @@ fn words(rt: HostRuntime) -> Result<(), Fail> {
         &rt,
         &[
             (
-                "class module def end if elsif else unless while until do case when then return break next self nil true false yield super",
-                "Class ; Module ; Def ; End ; If ; Elsif ; Else ; Unless ; While ; Until ; Do ; Case ; When ; Then ; Return ; Break ; Next ; SelfWord ; Nil ; True ; False ; Yield ; Super ; ",
+                "class module def end if elsif else unless while until do case when then return break next self nil true false yield super begin rescue ensure",
+                "Class ; Module ; Def ; End ; If ; Elsif ; Else ; Unless ; While ; Until ; Do ; Case ; When ; Then ; Return ; Break ; Next ; SelfWord ; Nil ; True ; False ; Yield ; Super ; Begin ; Rescue ; Ensure ; ",
             ),
             (
                 "a.class; a&.end; a.and; a.BEGIN",
@@ -169,13 +169,39 @@ fn words(rt: HostRuntime) -> Result<(), Fail> {
             ),
             ("a.\n if", "Identifier a; Dot ; Identifier if; "),
             ("and: 1", "Label and; Whole 1; "),
+            (
+                "begin: rescue: ensure: 1",
+                "Label begin; Label rescue; Label ensure; Whole 1; ",
+            ),
+            (
+                "a.begin; a&.rescue; a.ensure; def self.rescue",
+                "Identifier a; Dot ; Identifier begin; Separator ; Identifier a; SafeDot ; Identifier rescue; Separator ; Identifier a; Dot ; Identifier ensure; Separator ; Def ; SelfWord ; Dot ; Identifier rescue; ",
+            ),
+            (
+                ":begin :rescue @ensure",
+                "Symbol begin; Symbol rescue; InstanceVariable ensure; ",
+            ),
+            (
+                "begins rescue! ensure_",
+                "Identifier begins; Identifier rescue!; Identifier ensure_; ",
+            ),
+            (
+                "def begin; def rescue; def ensure",
+                "Def ; Begin ; Separator ; Def ; Rescue ; Separator ; Def ; Ensure ; ",
+            ),
+            (
+                "begin -1; rescue [A] => e",
+                "Begin ; Minus ; Whole 1; Separator ; Rescue ; OpenBracket ; Constant A; CloseBracket ; Arrow ; Identifier e; ",
+            ),
+            ("begin /a/", "outside 6"),
+            (
+                "a.retry; retry: 1",
+                "Identifier a; Dot ; Identifier retry; Separator ; Label retry; Whole 1; ",
+            ),
             ("ands defined", "Identifier ands; Identifier defined; "),
             ("and", "outside 0"),
             ("or", "outside 0"),
             ("not", "outside 0"),
-            ("begin", "outside 0"),
-            ("rescue", "outside 0"),
-            ("ensure", "outside 0"),
             ("retry", "outside 0"),
             ("redo", "outside 0"),
             ("alias", "outside 0"),
@@ -207,6 +233,10 @@ fn line_ends(rt: HostRuntime) -> Result<(), Fail> {
                 "OpenParen ; Identifier a; CloseParen ; Separator ; OpenBracket ; Identifier b; CloseBracket ; Separator ; OpenBrace ; Identifier c; CloseBrace ; Separator ; Identifier d; ",
             ),
             ("a:\nb", "Label a; Identifier b; "),
+            (
+                "begin\na\nrescue\nensure\nend",
+                "Begin ; Separator ; Identifier a; Separator ; Rescue ; Separator ; Ensure ; Separator ; End ; ",
+            ),
             ("def +\nb", "Def ; Plus ; Separator ; Identifier b; "),
             (
                 "def self.*\nb",

@@ -54,7 +54,7 @@ pub const FIVE: [(&[u8], Word); 13] = [
     (b"false", Word::Keyword(Shape::False)),
     (b"yield", Word::Keyword(Shape::Yield)),
     (b"super", Word::Keyword(Shape::Super)),
-    (b"begin", Word::Foreign),
+    (b"begin", Word::Keyword(Shape::Begin)),
     (b"retry", Word::Foreign),
     (b"alias", Word::Foreign),
     (b"undef", Word::Foreign),
@@ -65,8 +65,8 @@ pub const SIX: [(&[u8], Word); 5] = [
     (b"module", Word::Keyword(Shape::Module)),
     (b"return", Word::Keyword(Shape::Return)),
     (b"unless", Word::Keyword(Shape::Unless)),
-    (b"rescue", Word::Foreign),
-    (b"ensure", Word::Foreign),
+    (b"rescue", Word::Keyword(Shape::Rescue)),
+    (b"ensure", Word::Keyword(Shape::Ensure)),
 ];
 
 pub const EIGHT: [(&[u8], Word); 3] = [
