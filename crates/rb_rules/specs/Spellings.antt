@@ -42,10 +42,10 @@ pub data IsSymbolName : List ℕ → List ℕ → Type 0 where
 -- ---- numbers
 
 -- digits of a kind, with one `_` between two of them or none
-pub data AreDigits : (ℕ → Bool) → List ℕ → Type 0 where
-  One : (is_digit : ℕ → Bool) (d : ℕ) → is_digit d ≡ true → AreDigits is_digit (d ∷ [])
-  More : (is_digit : ℕ → Bool) (d : ℕ) (w : List ℕ) → is_digit d ≡ true → AreDigits is_digit w → AreDigits is_digit (d ∷ w)
-  Parted : (is_digit : ℕ → Bool) (d : ℕ) (w : List ℕ) → is_digit d ≡ true → AreDigits is_digit w → AreDigits is_digit (d ∷ 95 ∷ w)
+pub data AreDigits (is_digit : ℕ → Bool) : List ℕ → Type 0 where
+  One : (d : ℕ) → is_digit d ≡ true → AreDigits is_digit (d ∷ [])
+  More : (d : ℕ) (w : List ℕ) → is_digit d ≡ true → AreDigits is_digit w → AreDigits is_digit (d ∷ w)
+  Parted : (d : ℕ) (w : List ℕ) → is_digit d ≡ true → AreDigits is_digit w → AreDigits is_digit (d ∷ 95 ∷ w)
 
 -- a whole number: `0`, or digits that do not begin with 0, or `0x`, `0b`, `0o` and digits
 pub data IsWhole : List ℕ → Type 0 where
