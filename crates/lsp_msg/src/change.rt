@@ -2,7 +2,6 @@ ghost use Rattle.std.specs.Prelude.{◌≡◌, IfOk};
 
 use srb_terms::{NoMemory, Words};
 use srb_text::Pos;
-use std::alloc::Global;
 
 /// One change of an open document (LSP 3.17, "TextDocumentContentChangeEvent").
 #[derive(Debug, Drop, PartialEq, Eq)]
@@ -16,12 +15,12 @@ pub struct Change {
 
 impl Change {
     /// A copy of this change.
-    pub fn copied(&self, alloc: Global) -> Result<Change, NoMemory>
+    pub fn copied(&self) -> Result<Change, NoMemory>
         ensures { IfOk result (λ change. change ≡ self.now) }
     {
         Ok(Change {
             range: self.range,
-            text: self.text.copied(alloc)?,
+            text: self.text.copied()?,
         })
     }
 }

@@ -14,7 +14,7 @@ fn a_copied_change_says_the_same(rt: HostRuntime) -> Result<(), NoMemory> {
         range: Some((Pos { line: 0, unit: 1 }, Pos { line: 2, unit: 3 })),
         text: words(alloc, "new")?,
     };
-    let same = change.copied(alloc)?;
+    let same = change.copied()?;
     assert!(rt; same == change);
     let mut changes = Items::new(alloc);
     changes.push(change)?;
@@ -65,7 +65,7 @@ fn a_copied_error_is_the_same(rt: HostRuntime) -> Result<(), NoMemory> {
         number: 7007,
         text: words(alloc, "expected Integer, found String")?,
     };
-    assert!(rt; placed.copied(alloc)? == placed);
-    assert!(rt; Id::Number(1).copied(alloc)? == Id::Number(1));
+    assert!(rt; placed.copied()? == placed);
+    assert!(rt; Id::Number(1).copied()? == Id::Number(1));
     Ok(())
 }

@@ -67,59 +67,51 @@ impl Msg {
                 root,
                 encodings,
             } => Ok(Msg::Initialize {
-                id: id.copied(alloc)?,
-                root: copied_text(alloc, root)?,
+                id: id.copied()?,
+                root: copied_text(root)?,
                 encodings: copied_texts(alloc, encodings.as_slice())?,
             }),
             Msg::Opened { uri, text } => Ok(Msg::Opened {
-                uri: uri.copied(alloc)?,
-                text: text.copied(alloc)?,
+                uri: uri.copied()?,
+                text: text.copied()?,
             }),
             Msg::Changed { uri, changes } => Ok(Msg::Changed {
-                uri: uri.copied(alloc)?,
+                uri: uri.copied()?,
                 changes: copied_changes(alloc, changes.as_slice())?,
             }),
-            Msg::Saved { uri } => Ok(Msg::Saved {
-                uri: uri.copied(alloc)?,
-            }),
-            Msg::Closed { uri } => Ok(Msg::Closed {
-                uri: uri.copied(alloc)?,
-            }),
-            Msg::Shutdown { id } => Ok(Msg::Shutdown {
-                id: id.copied(alloc)?,
-            }),
+            Msg::Saved { uri } => Ok(Msg::Saved { uri: uri.copied()? }),
+            Msg::Closed { uri } => Ok(Msg::Closed { uri: uri.copied()? }),
+            Msg::Shutdown { id } => Ok(Msg::Shutdown { id: id.copied()? }),
             Msg::Exit => Ok(Msg::Exit),
-            Msg::Unknown { id } => Ok(Msg::Unknown {
-                id: id.copied(alloc)?,
-            }),
+            Msg::Unknown { id } => Ok(Msg::Unknown { id: id.copied()? }),
             Msg::Ignored => Ok(Msg::Ignored),
             Msg::BadParams { method, id } => Ok(Msg::BadParams {
-                method: method.copied(alloc)?,
-                id: copied_id(alloc, id)?,
+                method: method.copied()?,
+                id: copied_id(id)?,
             }),
             Msg::Bad { code, id } => Ok(Msg::Bad {
                 code: *code,
-                id: copied_id(alloc, id)?,
+                id: copied_id(id)?,
             }),
         }
     }
 }
 
-fn copied_id(alloc: Global, id: &Option<Id>) -> Result<Option<Id>, NoMemory>
+fn copied_id(id: &Option<Id>) -> Result<Option<Id>, NoMemory>
     ensures { IfOk result (λ copy. copy ≡ id.now) }
 {
     match id {
         None => Ok(None),
-        Some(id) => Ok(Some(id.copied(alloc)?)),
+        Some(id) => Ok(Some(id.copied()?)),
     }
 }
 
-fn copied_text(alloc: Global, text: &Option<Words>) -> Result<Option<Words>, NoMemory>
+fn copied_text(text: &Option<Words>) -> Result<Option<Words>, NoMemory>
     ensures { IfOk result (λ copy. copy ≡ text.now) }
 {
     match text {
         None => Ok(None),
-        Some(text) => Ok(Some(text.copied(alloc)?)),
+        Some(text) => Ok(Some(text.copied()?)),
     }
 }
 
@@ -128,7 +120,7 @@ fn copied_texts(alloc: Global, texts: &[Words]) -> Result<Items<Words>, NoMemory
 {
     let mut copy = Items::new(alloc);
     'texts: for text in texts {
-        copy.push(text.copied(alloc)?)?;
+        copy.push(text.copied()?)?;
     }
     Ok(copy)
 }
@@ -138,7 +130,7 @@ fn copied_changes(alloc: Global, changes: &[Change]) -> Result<Items<Change>, No
 {
     let mut copy = Items::new(alloc);
     'changes: for change in changes {
-        copy.push(change.copied(alloc)?)?;
+        copy.push(change.copied()?)?;
     }
     Ok(copy)
 }

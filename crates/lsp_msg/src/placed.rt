@@ -2,7 +2,6 @@ ghost use Rattle.std.specs.Prelude.{◌≡◌, IfOk};
 
 use srb_terms::{NoMemory, Words};
 use srb_text::Pos;
-use std::alloc::Global;
 
 /// An error as a client is shown it: its place by positions, its number and its text (LSP 3.17, "Diagnostic").
 #[derive(Debug, Drop, PartialEq, Eq)]
@@ -19,14 +18,14 @@ pub struct Placed {
 
 impl Placed {
     /// A copy of this error.
-    pub fn copied(&self, alloc: Global) -> Result<Placed, NoMemory>
+    pub fn copied(&self) -> Result<Placed, NoMemory>
         ensures { IfOk result (λ placed. placed ≡ self.now) }
     {
         Ok(Placed {
             start: self.start,
             end: self.end,
             number: self.number,
-            text: self.text.copied(alloc)?,
+            text: self.text.copied()?,
         })
     }
 }

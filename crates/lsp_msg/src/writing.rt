@@ -156,11 +156,11 @@ fn reason_text(reason: Reason) -> &'static str
 fn log_text(alloc: Global, method: &Words, reason: Reason) -> Result<Words, NoMemory>
     ensures { IfOk result (λ text. text ≡ log_text method.now reason) }
 {
-    let mut text = Words::from_str(alloc, "refused ")?;
+    let mut text = String::from_str(alloc, "refused ")?;
     text.push_str(method.as_str())?;
     text.push_str(": ")?;
     text.push_str(reason_text(reason))?;
-    Ok(text)
+    Words::from_string(text)
 }
 
 #[tactic(auto, unfolding(crate::specs::Written::log_params))]
