@@ -12,9 +12,10 @@ use Rattle.rb_lex.specs.Levels.{level_named, behind_blanks, word_len, level_alon
 use Rattle.rb_lex.specs.declared.chars.Set.TheVariants as set
 use Rattle.rb_lex.specs.declared.heading.Heading.{Heading}
 use Rattle.rb_lex.specs.declared.heading.Heading.TheVariants.{Passed, Given, Other}
-use Rattle.rb_lex_laws.specs.Spellings.{Begins, Holds}
-use Rattle.rb_lex_laws.specs.Lexes.{IsBlank, EndsLine}
-use Rattle.rb_lex_laws.specs.Levels.{word_of_level, AreBlank, Gives, IsLine, Asks, LevelIsThatOfTheText}
+use Rattle.rb_rules.specs.Spellings.{Begins, Holds}
+use Rattle.rb_rules.specs.Lexes.{IsBlank, EndsLine}
+use Rattle.rb_lex_laws.specs.Levels.{LevelIsThatOfTheText}
+use Rattle.rb_rules.specs.Levels.{word_of_level, AreBlank, Gives, IsLine, Asks}
 use Rattle.rb_lex_laws.proofs.Lists.{head-same, tail-same, begins-parts, if-true, if-false, and-both, both-and, no-both, eq-is, is-eq, eq-not, not-eq, take-front, drop-front, parts, false-of, begins-is, is-begins, begins-not}
 use Rattle.rb_lex_laws.proofs.Blanks.{blank_here, Blank, blank-of, blank-here, blank-some, starts-parts}
 use Rattle.rb_lex_laws.proofs.Encoded.{enc-begins, enc, Thin, wide-encode, thin-append, enc-cons, enc-front, enc-append, enc-thin, enc-parts, enc-none, enc-some}

@@ -14,9 +14,9 @@ use Rattle.rb_lex.specs.Lexed.{token_at, pushed, behind_line, string_behind, clo
 use Rattle.rb_lex.specs.declared.cut.Lexeme.{Lexeme}
 use Rattle.rb_lex.specs.declared.state.Opened.{Opened}
 use Rattle.rb_lex.specs.declared.state.State.{State}
-use Rattle.rb_lex_laws.specs.Spellings.{Holds}
-use Rattle.rb_lex_laws.specs.Before.{frames, has_bars, Keeps}
-use Rattle.rb_lex_laws.specs.Lexes.{Place, past_of, FIRST, passed, Continues}
+use Rattle.rb_rules.specs.Spellings.{Holds}
+use Rattle.rb_rules.specs.Before.{frames, has_bars, Keeps}
+use Rattle.rb_rules.specs.Lexes.{Place, past_of, FIRST, passed, Continues, OpenString}
 use Rattle.rb_lex_laws.proofs.Lists.{split, no-both, false-of}
 use Rattle.rb_lex_laws.proofs.Blanks.{goes_on, continues-on, continues-is}
 use Rattle.rb_lex_laws.proofs.Past.{before_of, keeps_of, keeps_behind, keeps-asked, opens-asked}
@@ -86,9 +86,17 @@ pub record Behind (p : Place) (s : State) : Type 0 where
   pub tokens_are : take s.mark s.tokens ≡ p.tokens
   pub last_is : s.last ≡ before_of (past_of p)
 
+-- an open string as the lexer's state holds it
+abbrev pub held_as : OpenString → Opened
+held_as o = record { quote = o.quote; opening = o.opening; from = o.from }
+
+abbrev pub held_string : Option OpenString → Option Opened
+held_string None = None
+held_string (Some o) = Some (held_as o)
+
 pub record Matches (p : Place) (s : State) (z : List ℕ) : Type 0 where
-  pub string_is : s.string ≡ p.string
-  pub quote_is : (o : Opened) → p.string ≡ Some o → IsQuote o.quote
+  pub string_is : s.string ≡ held_string p.string
+  pub quote_is : (o : OpenString) → p.string ≡ Some o → IsQuote o.quote
   pub blank_is : s.look.is_blank ≡ p.blank
   pub fresh_is : s.look.is_fresh ≡ p.start
   pub stack : Stack s.nesting (frames (past_of p)) p.outer
@@ -96,7 +104,7 @@ pub record Matches (p : Place) (s : State) (z : List ℕ) : Type 0 where
   pub mark_in : s.mark ≤ length s.tokens
   pub sync : p.string ≡ None → goes_on false z ≡ false → InStep p s
   pub pend : p.string ≡ None → goes_on false z ≡ true → Behind p s
-  pub inner : (o : Opened) → p.string ≡ Some o → s.tokens ≡ p.tokens
+  pub inner : (o : OpenString) → p.string ≡ Some o → s.tokens ≡ p.tokens
 
 pub first-matches : (z : List ℕ) → Matches FIRST START z
 first-matches z =
@@ -164,7 +172,7 @@ dropped-matches p s rest m none why =
       inner = m.inner;
     })
   where
-    no-string : (o : Opened) → p.string ≡ Some o → ⊥
+    no-string : (o : OpenString) → p.string ≡ Some o → ⊥
     no-string o e = let f : None ≡ Some o = sym none ∙ e in absurd (cc)
 
     kept : s.keeps ≡ true → p.string ≡ None → goes_on false rest ≡ false → ((Keeps (past_of p) → ⊥) ⊎ Continues rest) → ⊥
@@ -194,7 +202,7 @@ kept-matches p s rest m none keeps free =
     })
     (λ k. no-both s.keeps on k)
   where
-    no-string : (o : Opened) → p.string ≡ Some o → ⊥
+    no-string : (o : OpenString) → p.string ≡ Some o → ⊥
     no-string o e = let f : None ≡ Some o = sym none ∙ e in absurd (cc)
 
 -- ---- strings begin
@@ -214,7 +222,7 @@ opened-matches p s quote rest m none q =
       inner = λ o e. (m.sync none (stops q)).tokens_are;
     }
   where
-    quote_of : Option Opened → ℕ
+    quote_of : Option OpenString → ℕ
     quote_of (Some o) = o.quote
     quote_of None = quote
 
@@ -235,7 +243,7 @@ pub record Fresh (past : List Shape) (tokens : List Token) (s : State) : Type 0 
   pub blank_is : s.look.is_blank ≡ false
   pub fresh_is : s.look.is_fresh ≡ false
 
-pub fresh-matches : (p : Place) (s : State) (z : List ℕ) → Fresh (past_of p) p.tokens s → p.blank ≡ false → p.start ≡ false → s.string ≡ p.string → ((o : Opened) → p.string ≡ Some o → IsQuote o.quote) → Stack s.nesting (frames (past_of p)) p.outer → Matches p s z
+pub fresh-matches : (p : Place) (s : State) (z : List ℕ) → Fresh (past_of p) p.tokens s → p.blank ≡ false → p.start ≡ false → s.string ≡ held_string p.string → ((o : OpenString) → p.string ≡ Some o → IsQuote o.quote) → Stack s.nesting (frames (past_of p)) p.outer → Matches p s z
 fresh-matches p s z f blank start string quote stack =
     record {
       string_is = string;

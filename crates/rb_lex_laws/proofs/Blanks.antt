@@ -8,8 +8,8 @@ use Rattle.std.proofs.lemmas.Bool.Decides.{nat_tests}
 use Rattle.rb_lex.specs.Chars.{is_in, blank_len, is_spaced, is_letter}
 use Rattle.rb_lex.specs.Cuts.{ends_line}
 use Rattle.rb_lex.specs.declared.chars.Set.TheVariants as set
-use Rattle.rb_lex_laws.specs.Spellings.{Begins, Holds}
-use Rattle.rb_lex_laws.specs.Lexes.{IsBlank, IsComment, IsSpaced, Continues, EndsLine}
+use Rattle.rb_rules.specs.Spellings.{Begins, Holds}
+use Rattle.rb_rules.specs.Lexes.{IsBlank, IsComment, IsSpaced, Continues, EndsLine}
 use Rattle.rb_lex_laws.proofs.Lists.{if-false, and-both, or-either, left-or, no-both, eq-is, eq-not, not-eq, false-of, begins-is, begins-parts}
 
 -- ---- blanks

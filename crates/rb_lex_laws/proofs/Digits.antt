@@ -7,9 +7,9 @@ use Rattle.rb_lex.specs.Chars.{is_in}
 use Rattle.rb_lex.specs.Numbers.{more_digits, digits_len, exponent_end}
 use Rattle.rb_lex.specs.declared.chars.Set.{Set}
 use Rattle.rb_lex.specs.declared.chars.Set.TheVariants as set
-use Rattle.rb_lex_laws.specs.Spellings.{AreDigits, IsExponent}
-use Rattle.rb_lex_laws.specs.Spellings.AreDigits.{One, More, Parted}
-use Rattle.rb_lex_laws.specs.Spellings.IsExponent.{Missing, Unsigned, Raised, Lowered}
+use Rattle.rb_rules.specs.Spellings.{AreDigits, IsExponent}
+use Rattle.rb_rules.specs.Spellings.AreDigits.{One, More, Parted}
+use Rattle.rb_rules.specs.Spellings.IsExponent.{Missing, Unsigned, Raised, Lowered}
 use Rattle.rb_lex_laws.proofs.Lists.{if-true, if-false, and-both, both-and, or-either, left-or, right-or, not-of, no-both, eq-is, tail-at}
 use Rattle.rb_lex_laws.proofs.Longest.{digits-longest}
 use Rattle.rb_lex_laws.proofs.Runs.{nothing-in}
@@ -22,7 +22,7 @@ pub record Digits (s : Set) (z : List ℕ) : Type 0 where
   pub digits : List ℕ
   pub rest : List ℕ
   pub whole : digits ++ rest ≡ z
-  pub are : AreDigits s digits
+  pub are : AreDigits (is_in s) digits
   pub stops : goes_on s rest ≡ false
   pub more : more_digits s z ≡ length digits
 
@@ -43,19 +43,19 @@ more-first s d z h = more-on s d z (left-or (is_in s d) (d == 95 && is_in s (sli
 last-digit : (s : Set) (d : ℕ) (z : List ℕ) → is_in s d ≡ true → goes_on s z ≡ false → Digits s (d ∷ z)
 last-digit s d z h stops =
     let n : 1 + more_digits s z ≡ 1 = omega (arith, more-not s z stops) in
-    record { digits = d ∷ []; rest = z; whole = refl; are = One s d h; stops = stops; more = more-first s d z h ∙ n }
+    record { digits = d ∷ []; rest = z; whole = refl; are = One d h; stops = stops; more = more-first s d z h ∙ n }
 
 next-digit : (s : Set) (d : ℕ) (z : List ℕ) → is_in s d ≡ true → Digits s z → Digits s (d ∷ z)
 next-digit s d z h m =
     let n : 1 + more_digits s z ≡ suc (length m.digits) = omega (arith, m.more) in
-    record { digits = d ∷ m.digits; rest = m.rest; whole = ap (λ y. d ∷ y) m.whole; are = More s d m.digits h m.are; stops = m.stops; more = more-first s d z h ∙ n }
+    record { digits = d ∷ m.digits; rest = m.rest; whole = ap (λ y. d ∷ y) m.whole; are = More d m.digits h m.are; stops = m.stops; more = more-first s d z h ∙ n }
 
 part-digit : (s : Set) (d b c : ℕ) (z : List ℕ) → is_in s d ≡ true → (b == 95) ≡ true → is_in s c ≡ true → Digits s (c ∷ z) → Digits s (d ∷ b ∷ c ∷ z)
 part-digit s d b c z h e k m =
     let first = more-first s d (b ∷ c ∷ z) h in
     let bar = more-on s b (c ∷ z) (parted-on s b c z e k) in
     let n : more_digits s (d ∷ b ∷ c ∷ z) ≡ suc (suc (length m.digits)) = omega (arith, m.more) in
-    record { digits = d ∷ 95 ∷ m.digits; rest = m.rest; whole = ap (λ y. d ∷ 95 ∷ y) m.whole ∙ ap (λ x. d ∷ x ∷ c ∷ z) (sym (eq-is b 95 e)); are = Parted s d m.digits h m.are; stops = m.stops; more = n }
+    record { digits = d ∷ 95 ∷ m.digits; rest = m.rest; whole = ap (λ y. d ∷ 95 ∷ y) m.whole ∙ ap (λ x. d ∷ x ∷ c ∷ z) (sym (eq-is b 95 e)); are = Parted d m.digits h m.are; stops = m.stops; more = n }
 
 pub digits-from : (s : Set) (d : ℕ) (z : List ℕ) → is_in s d ≡ true → Digits s (d ∷ z)
 digits-from s d [] h = last-digit s d [] h (nothing s)
@@ -95,24 +95,24 @@ digits-of s [] h = no-both (is_in s 0) h (nothing-in s)
 digits-of s (d ∷ z) h = digits-from s d z h
 
 -- digits end where none go on
-pub digits-end : (s : Set) (a r : List ℕ) → AreDigits s a → goes_on s r ≡ false → more_digits s (a ++ r) ≡ length a
-digits-end s _ r (One _ d h) stops = let n : 1 + more_digits s r ≡ 1 = omega (arith, more-not s r stops) in more-first s d r h ∙ n
-digits-end s _ r (More _ d w h more) stops =
+pub digits-end : (s : Set) (a r : List ℕ) → AreDigits (is_in s) a → goes_on s r ≡ false → more_digits s (a ++ r) ≡ length a
+digits-end s _ r (One d h) stops = let n : 1 + more_digits s r ≡ 1 = omega (arith, more-not s r stops) in more-first s d r h ∙ n
+digits-end s _ r (More d w h more) stops =
     let n : 1 + more_digits s (w ++ r) ≡ suc (length w) = omega (arith, digits-end s w r more stops) in more-first s d (w ++ r) h ∙ n
-digits-end s _ r (Parted _ d w h more) stops =
+digits-end s _ r (Parted d w h more) stops =
     let first = more-first s d (95 ∷ (w ++ r)) h in
     let bar = more-on s 95 (w ++ r) (right-or (is_in s 95) (95 == 95 && is_in s (slice_index (95 ∷ (w ++ r)) 1)) (ap (λ c. is_in s c) (sym (tail-at (95 ∷ (w ++ r)))) ∙ digits-begin s w r more)) in
     omega (arith, digits-end s w r more stops)
   where
-    digits-begin : (s : Set) (w r : List ℕ) → AreDigits s w → is_in s (slice_index (w ++ r) 0) ≡ true
-    digits-begin s _ r (One _ d h) = h
-    digits-begin s _ r (More _ d w h more) = h
-    digits-begin s _ r (Parted _ d w h more) = h
+    digits-begin : (s : Set) (w r : List ℕ) → AreDigits (is_in s) w → is_in s (slice_index (w ++ r) 0) ≡ true
+    digits-begin s _ r (One d h) = h
+    digits-begin s _ r (More d w h more) = h
+    digits-begin s _ r (Parted d w h more) = h
 
-pub digits-first : (s : Set) (w r : List ℕ) → AreDigits s w → is_in s (slice_index (w ++ r) 0) ≡ true
-digits-first s _ r (One _ d h) = h
-digits-first s _ r (More _ d w h more) = h
-digits-first s _ r (Parted _ d w h more) = h
+pub digits-first : (s : Set) (w r : List ℕ) → AreDigits (is_in s) w → is_in s (slice_index (w ++ r) 0) ≡ true
+digits-first s _ r (One d h) = h
+digits-first s _ r (More d w h more) = h
+digits-first s _ r (Parted d w h more) = h
 
 -- ---- exponents
 
@@ -183,7 +183,7 @@ exponent-of q = by (slice_index q 0 == 101) refl (is_in set.Decimal (slice_index
         ap (λ x. L x (is_in set.Decimal (slice_index q 1)) ((slice_index q 1 == 43 || slice_index q 1 == 45) && is_in set.Decimal (slice_index q 2))) e
         ∙ ap (λ x. L s x ((slice_index q 1 == 43 || slice_index q 1 == 45) && is_in set.Decimal (slice_index q 2))) f ∙ ap (L s t) g
 
-    signed : (k : ℕ) → 0 < k → ((w : List ℕ) → AreDigits set.Decimal w → IsExponent (101 ∷ k ∷ w)) → (slice_index q 0 == 101) ≡ true → (slice_index q 1 == k) ≡ true → is_in set.Decimal (slice_index q 2) ≡ true → exponent_len q ≡ 2 + digits_len set.Decimal (drop 2 q) → Exponent q
+    signed : (k : ℕ) → 0 < k → ((w : List ℕ) → AreDigits (is_in set.Decimal) w → IsExponent (101 ∷ k ∷ w)) → (slice_index q 0 == 101) ≡ true → (slice_index q 1 == k) ≡ true → is_in set.Decimal (slice_index q 2) ≡ true → exponent_len q ≡ 2 + digits_len set.Decimal (drop 2 q) → Exponent q
     signed k some make e c d n =
         let there : is_in set.Decimal (slice_index (drop 2 q) 0) ≡ true = ap (is_in set.Decimal) (at-two q) ∙ d in
         let m = digits-of set.Decimal (drop 2 q) there in

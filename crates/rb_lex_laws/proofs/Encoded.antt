@@ -10,8 +10,8 @@ use Rattle.rb_tree.specs.declared.token.Shape.{Shape}
 use Rattle.rb_lex.specs.Chars.{is_in, begins_name, is_upper}
 use Rattle.rb_lex.specs.declared.chars.Set.{Set}
 use Rattle.rb_lex.specs.declared.chars.Set.TheVariants as set
-use Rattle.rb_lex_laws.specs.Spellings.{Begins, Holds, IsNamed, IsIdentifier, IsConstant, IsSymbolName, AreDigits, IsWhole, IsExponent, IsFloat, OPERATORS, METHOD_OPERATORS, FOREIGN_OPERATORS}
-use Rattle.rb_lex_laws.specs.Lexes.{Spells, IsLongest}
+use Rattle.rb_rules.specs.Spellings.{Begins, Holds, IsNamed, IsIdentifier, IsConstant, IsSymbolName, AreDigits, IsWhole, IsExponent, IsFloat, OPERATORS, METHOD_OPERATORS, FOREIGN_OPERATORS}
+use Rattle.rb_rules.specs.Lexes.{Spells, IsLongest}
 use Rattle.rb_lex_laws.proofs.Lists.{if-true, if-false, and-both, both-and, head-same, tail-same}
 use Rattle.rb_lex_laws.proofs.Longest.{named-all, upper-in, lower-in}
 use Rattle.rb_lex_laws.proofs.Rows.{EachRow, at-row}
@@ -202,10 +202,10 @@ digit-thin set.Octal c h = grind (arith, nat_tests, common_steps)
 digit-thin set.Decimal c h = grind (arith, nat_tests, common_steps)
 digit-thin set.Hexadecimal c h = grind (arith, nat_tests, common_steps)
 
-pub digits-thin : (s : Set) (w : List ℕ) → AreDigits s w → Thin w
-digits-thin s _ (AreDigits.One _ d h) = both-and (nat_lt d 128) true (digit-thin s d h) refl
-digits-thin s _ (AreDigits.More _ d w h more) = both-and (nat_lt d 128) (list_all (λ c. nat_lt c 128) w) (digit-thin s d h) (digits-thin s w more)
-digits-thin s _ (AreDigits.Parted _ d w h more) = both-and (nat_lt d 128) (list_all (λ c. nat_lt c 128) (95 ∷ w)) (digit-thin s d h) (digits-thin s w more)
+pub digits-thin : (s : Set) (w : List ℕ) → AreDigits (is_in s) w → Thin w
+digits-thin s _ (AreDigits.One d h) = both-and (nat_lt d 128) true (digit-thin s d h) refl
+digits-thin s _ (AreDigits.More d w h more) = both-and (nat_lt d 128) (list_all (λ c. nat_lt c 128) w) (digit-thin s d h) (digits-thin s w more)
+digits-thin s _ (AreDigits.Parted d w h more) = both-and (nat_lt d 128) (list_all (λ c. nat_lt c 128) (95 ∷ w)) (digit-thin s d h) (digits-thin s w more)
 
 whole-thin : (w : List ℕ) → IsWhole w → Thin w
 whole-thin _ IsWhole.Zero = refl

@@ -15,14 +15,14 @@ use Rattle.rb_lex.specs.declared.state.Opened.{Opened}
 use Rattle.rb_lex.specs.declared.state.State.{State}
 use Rattle.rb_lex.specs.declared.LexEnd.{LexEnd}
 use Rattle.rb_lex.specs.declared.LexEnd.TheVariants.{Bad, Outside}
-use Rattle.rb_lex_laws.specs.Spellings.{Holds}
-use Rattle.rb_lex_laws.specs.Before.{frames}
-use Rattle.rb_lex_laws.specs.Lexes.{Place, past_of, pieced, IsContent, IsCutContent, IsTouched, interpolated as interpolates}
+use Rattle.rb_rules.specs.Spellings.{Holds}
+use Rattle.rb_rules.specs.Before.{frames}
+use Rattle.rb_rules.specs.Lexes.{Place, past_of, pieced, IsContent, IsCutContent, IsTouched, interpolated as interpolates, OpenString}
 use Rattle.rb_lex_laws.proofs.Lists.{if-true, if-false, false-of, left-or, take-front, drop-front}
 use Rattle.rb_lex_laws.proofs.Encoded.{enc, enc-append, enc-cons, enc-front, enc-some}
 use Rattle.rb_lex_laws.proofs.Steps.{step-string, refused, advance}
 use Rattle.rb_lex_laws.proofs.Strings.{IsQuote, enc-len, quote-piece, interpolation-piece, foreign-piece, end-piece, touched-bytes, bytes-touched}
-use Rattle.rb_lex_laws.proofs.Beside.{Stack, Matches, Fresh, fresh-matches, past-push, inside-open, open-inside}
+use Rattle.rb_lex_laws.proofs.Beside.{Stack, Matches, Fresh, fresh-matches, past-push, inside-open, open-inside, held_as, held_string}
 use Rattle.rb_lex_laws.proofs.Landing.{Landed}
 
 abbrev by_piece : Opened → ℕ → List ℕ → State → Piece → Result (ℕ × State) LexEnd
@@ -38,9 +38,9 @@ string-piece : (at : ℕ) (z : List ℕ) (s : State) (o : Opened) (p : Piece) �
 unfolding string_step
 string-piece at z s o p e f = step-string at z s o e ∙ ap (by_piece o at z s) f
 
-module _ (p : Place) (s : State) (z : List ℕ) (m : Matches p s z) (o : Opened) (inside : p.string ≡ Some o) where
-  open_is : s.string ≡ Some o
-  open_is = m.string_is ∙ inside
+module _ (p : Place) (s : State) (z : List ℕ) (m : Matches p s z) (o : OpenString) (inside : p.string ≡ Some o) where
+  open_is : s.string ≡ Some (held_as o)
+  open_is = m.string_is ∙ ap held_string inside
 
   q : IsQuote o.quote
   q = m.quote_is o inside
@@ -98,7 +98,7 @@ module _ (p : Place) (s : State) (z : List ℕ) (m : Matches p s z) (o : Opened)
 
       stepped : step p.at (enc z) s ≡ Ok (length (enc w) + 1, text_end w (length (enc w)) (kind.Text (take (length (enc w)) (enc z))))
       stepped =
-          string-piece p.at (enc z) s o (record { stop = stop.Quote; len = length (enc w) }) open_is (ap (λ y. piece_of o.quote (enc y)) (sym whole) ∙ quote-piece o.quote w rest q content)
+          string-piece p.at (enc z) s (held_as o) (record { stop = stop.Quote; len = length (enc w) }) open_is (ap (λ y. piece_of o.quote (enc y)) (sym whole) ∙ quote-piece o.quote w rest q content)
           ∙ if-false (is_touched (drop (length (enc w) + 1) (enc z))) (Err (Outside o.opening)) _ (ap is_touched behind_is ∙ false-of (is_touched (enc rest)) (λ t. free (bytes-touched rest t)))
 
       some : 0 < length (enc w ++ o.quote ∷ [])
@@ -140,7 +140,7 @@ module _ (p : Place) (s : State) (z : List ℕ) (m : Matches p s z) (o : Opened)
 
       stepped : step p.at (enc z) s ≡ Err (Outside o.opening)
       stepped =
-          string-piece p.at (enc z) s o (record { stop = stop.Quote; len = length (enc w) }) open_is (ap (λ y. piece_of o.quote (enc y)) (sym whole) ∙ quote-piece o.quote w rest q content)
+          string-piece p.at (enc z) s (held_as o) (record { stop = stop.Quote; len = length (enc w) }) open_is (ap (λ y. piece_of o.quote (enc y)) (sym whole) ∙ quote-piece o.quote w rest q content)
           ∙ if-true (is_touched (drop (length (enc w) + 1) (enc z))) (Err (Outside o.opening)) _ (ap is_touched behind_is ∙ touched-bytes rest touch)
 
   abbrev hashed : ℕ → TokenKind → State
@@ -193,7 +193,7 @@ module _ (p : Place) (s : State) (z : List ℕ) (m : Matches p s z) (o : Opened)
 
       stepped : step p.at (enc z) s ≡ Ok (length (enc w) + 2, hashed (length (enc w)) (kind.Text (take (length (enc w)) (enc z))))
       stepped =
-          string-piece p.at (enc z) s o (record { stop = stop.Interpolation; len = length (enc w) }) open_is (ap (λ c. piece_of c (enc z)) quote ∙ ap (λ y. piece_of 34 (enc y)) (sym whole) ∙ interpolation-piece w rest content)
+          string-piece p.at (enc z) s (held_as o) (record { stop = stop.Interpolation; len = length (enc w) }) open_is (ap (λ c. piece_of c (enc z)) quote ∙ ap (λ y. piece_of 34 (enc y)) (sym whole) ∙ interpolation-piece w rest content)
 
       some : 0 < length (enc w ++ 35 ∷ 123 ∷ [])
       some = let l = long in omega arith
@@ -220,7 +220,7 @@ module _ (p : Place) (s : State) (z : List ℕ) (m : Matches p s z) (o : Opened)
       ap (lexed_from 0 p.at s) front
       ∙ refused p.at some.0 some.1 s (Outside (p.at + length (enc w)))
       (ap (λ y. step p.at y s) (sym front)
-      ∙ string-piece p.at (enc z) s o (record { stop = stop.Foreign; len = length (enc w) }) open_is (ap (λ d. piece_of d (enc z)) quote ∙ ap (λ y. piece_of 34 (enc y)) (sym whole) ∙ foreign-piece w rest c either content))
+      ∙ string-piece p.at (enc z) s (held_as o) (record { stop = stop.Foreign; len = length (enc w) }) open_is (ap (λ d. piece_of d (enc z)) quote ∙ ap (λ y. piece_of 34 (enc y)) (sym whole) ∙ foreign-piece w rest c either content))
       ∙ ap (λ k. let r : Result (List Token) LexEnd = Err (Outside (p.at + k)) in r) (enc-len w)
 
   -- the text's end in the string
@@ -240,14 +240,14 @@ module _ (p : Place) (s : State) (z : List ℕ) (m : Matches p s z) (o : Opened)
           let front : enc z ≡ some.0 ∷ some.1 = ap enc (sym e) ∙ some.2 in
           ap (lexed_from 0 p.at s) front
           ∙ refused p.at some.0 some.1 s (Bad (p.at + length (enc z)))
-          (ap (λ x. step p.at x s) (sym front) ∙ string-piece p.at (enc z) s o (record { stop = stop.End; len = length (enc z) }) open_is (end-piece o.quote z q content))
+          (ap (λ x. step p.at x s) (sym front) ∙ string-piece p.at (enc z) s (held_as o) (record { stop = stop.End; len = length (enc z) }) open_is (end-piece o.quote z q content))
           ∙ ap (λ k. let r : Result (List Token) LexEnd = Err (Bad (p.at + k)) in r) (enc-len z)
 
 -- ---- the text's end outside strings
 
 module _ (p : Place) (s : State) (m : Matches p s []) (none : p.string ≡ None) where
   code : s.string ≡ None
-  code = m.string_is ∙ none
+  code = m.string_is ∙ ap held_string none
 
   pub whole-end : ¬ Holds true (frames (past_of p)) → lexed_from 0 p.at s [] ≡ Ok p.tokens
   whole-end closed =

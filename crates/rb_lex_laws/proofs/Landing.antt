@@ -10,9 +10,9 @@ use Rattle.rb_lex.specs.Chars.{is_letter}
 use Rattle.rb_lex.specs.Lexed.{kind_of, token_at, continues, closed, nested, lexed_from}
 use Rattle.rb_lex.specs.declared.state.Opened.{Opened}
 use Rattle.rb_lex.specs.declared.state.State.{State}
-use Rattle.rb_lex_laws.specs.Spellings.{Holds, KEYWORDS, OPERATORS, METHOD_OPERATORS}
-use Rattle.rb_lex_laws.specs.Before.{frames}
-use Rattle.rb_lex_laws.specs.Lexes.{Spells, Place, past_of, spelt, IsReturn}
+use Rattle.rb_rules.specs.Spellings.{Holds, KEYWORDS, OPERATORS, METHOD_OPERATORS}
+use Rattle.rb_rules.specs.Before.{frames}
+use Rattle.rb_rules.specs.Lexes.{Spells, Place, past_of, spelt, IsReturn, OpenString, kind_of as kind_by}
 use Rattle.rb_lex_laws.proofs.Lists.{head-same, tail-same, and-both, or-either, left-or, no-both}
 use Rattle.rb_lex_laws.proofs.Blanks.{goes_on}
 use Rattle.rb_lex_laws.proofs.Encoded.{enc-some, enc-first, enc}
@@ -20,7 +20,7 @@ use Rattle.rb_lex_laws.proofs.Marks.{spelling-of}
 use Rattle.rb_lex_laws.proofs.Past.{same-is, is-same}
 use Rattle.rb_lex_laws.proofs.Rows.{EachRow, at-row}
 use Rattle.rb_lex_laws.proofs.Rules.{letter-low}
-use Rattle.rb_lex_laws.proofs.Beside.{Stack, Popped, popped, Matches, Fresh, fresh-matches, nested-fresh, nested-stack, past-push}
+use Rattle.rb_lex_laws.proofs.Beside.{Stack, Popped, popped, Matches, Fresh, fresh-matches, nested-fresh, nested-stack, past-push, held_string}
 
 -- ---- spellings of single shapes
 
@@ -35,7 +35,7 @@ Apart row = (same_shape row.0 shape.Interpolation ≡ false) × (same_shape row.
 
 keywords-apart : EachRow Apart KEYWORDS
 unfolding same_shape
-keywords-apart = ((refl, refl, refl, refl), ((refl, refl, refl, refl), ((refl, refl, refl, refl), ((refl, refl, refl, refl), ((refl, refl, refl, refl), ((refl, refl, refl, refl), ((refl, refl, refl, refl), ((refl, refl, refl, refl), ((refl, refl, refl, refl), ((refl, refl, refl, refl), ((refl, refl, refl, refl), ((refl, refl, refl, refl), ((refl, refl, refl, refl), ((refl, refl, refl, refl), ((refl, refl, refl, refl), ((refl, refl, refl, refl), ((refl, refl, refl, refl), ((refl, refl, refl, refl), ((refl, refl, refl, refl), ((refl, refl, refl, refl), ((refl, refl, refl, refl), ((refl, refl, refl, refl), ((refl, refl, refl, refl), tt)))))))))))))))))))))))
+keywords-apart = ((refl, refl, refl, refl), ((refl, refl, refl, refl), ((refl, refl, refl, refl), ((refl, refl, refl, refl), ((refl, refl, refl, refl), ((refl, refl, refl, refl), ((refl, refl, refl, refl), ((refl, refl, refl, refl), ((refl, refl, refl, refl), ((refl, refl, refl, refl), ((refl, refl, refl, refl), ((refl, refl, refl, refl), ((refl, refl, refl, refl), ((refl, refl, refl, refl), ((refl, refl, refl, refl), ((refl, refl, refl, refl), ((refl, refl, refl, refl), ((refl, refl, refl, refl), ((refl, refl, refl, refl), ((refl, refl, refl, refl), ((refl, refl, refl, refl), ((refl, refl, refl, refl), ((refl, refl, refl, refl), ((refl, refl, refl, refl), ((refl, refl, refl, refl), ((refl, refl, refl, refl), tt))))))))))))))))))))))))))
 
 methods-apart : EachRow Apart METHOD_OPERATORS
 unfolding same_shape
@@ -99,9 +99,15 @@ goes-needs past t w words rest h go = by (spells-single past t w words rest h) (
         let both = and-both (same_shape t shape.Dot) (is_letter (slice_index (enc rest) 0)) e in
         ap (λ v. goes_on false (v ++ rest)) (s.dot (same-is t shape.Dot both.0)) ∙ left-or (is_letter (slice_index rest 0)) (46 == 38 && slice_index rest 0 == 46) (letter-front rest both.1)
 
+-- the lexer makes the kind that the rules give a shape
+kind-same : (t : Shape) (words : List ℕ) → kind_of t words ≡ kind_by t words
+unfolding kind_of kind_by plain_kind same_shape
+kind-same shape.Text words = refl
+kind-same _ words = refl
+
 -- the shape of a token's kind is that of the token
-pub kind-shape : (t : Shape) (words : List ℕ) → shape_of (kind_of t words) ≡ t
-unfolding shape_of kind_of plain_kind same_shape
+kind-shape : (t : Shape) (words : List ℕ) → shape_of (kind_by t words) ≡ t
+unfolding shape_of kind_by plain_kind
 kind-shape shape.Text words = refl
 kind-shape _ words = refl
 
@@ -117,13 +123,13 @@ returned opening outer p = record (spelt shape.CloseBrace (125 ∷ []) [] p) { s
 
 pub spelt-past : (t : Shape) (w words : List ℕ) (p : Place) → past_of (spelt t w words p) ≡ t ∷ past_of p
 spelt-past t w words p =
-    past-push p.tokens (token_at (kind_of t (enc words)) p.at (p.at + byte_len w)) ∙ ap (λ u. u ∷ past_of p) (kind-shape t (enc words))
+    past-push p.tokens (token_at (kind_by t (enc words)) p.at (p.at + byte_len w)) ∙ ap (λ u. u ∷ past_of p) (kind-shape t (enc words))
 
 -- the state behind the token, as it stands beside the place behind the token
 pub behind-fresh : (p : Place) (t : Shape) (w words : List ℕ) (k : TokenKind) (end : ℕ) (s : State) → k ≡ kind_of t (enc words) → end ≡ p.at + byte_len w → Fresh (t ∷ past_of p) (p.tokens ++ token_at k p.at end ∷ []) s → Fresh (past_of (spelt t w words p)) (spelt t w words p).tokens s
 behind-fresh p t w words k end s e f h =
     subst (λ past. Fresh past (spelt t w words p).tokens s) (sym (spelt-past t w words p))
-    (subst (λ n. Fresh (t ∷ past_of p) (p.tokens ++ token_at (kind_of t (enc words)) p.at n ∷ []) s) f (subst (λ q. Fresh (t ∷ past_of p) (p.tokens ++ token_at q p.at end ∷ []) s) e h))
+    (subst (λ n. Fresh (t ∷ past_of p) (p.tokens ++ token_at (kind_by t (enc words)) p.at n ∷ []) s) f (subst (λ q. Fresh (t ∷ past_of p) (p.tokens ++ token_at q p.at end ∷ []) s) (e ∙ kind-same t (enc words)) h))
 
 module _ (p : Place) (s : State) (y : List ℕ) (m : Matches p s y) (none : p.string ≡ None) where
   -- the token ends no interpolation
@@ -131,10 +137,10 @@ module _ (p : Place) (s : State) (y : List ℕ) (m : Matches p s y) (none : p.st
   lands t w words rest end e plain string nesting f stays =
       let st : Stack e.nesting (frames (past_of p)) p.outer = subst (λ n. Stack n (frames (past_of p)) p.outer) (sym nesting) m.stack in
       let q = nested-stack t end e (frames (past_of p)) p.outer plain string st (λ c h. stays (same-is t shape.CloseBrace c, h)) in
-      fresh-matches (spelt t w words p) (nested t end e) rest (nested-fresh (past_of (spelt t w words p)) (spelt t w words p).tokens t end e f) refl refl (q.1 ∙ sym none)
+      fresh-matches (spelt t w words p) (nested t end e) rest (nested-fresh (past_of (spelt t w words p)) (spelt t w words p).tokens t end e f) refl refl (q.1 ∙ sym (ap held_string none))
       (λ o k. absurd (no-string o k)) (subst (λ past. Stack (nested t end e).nesting (frames past) p.outer) (sym (spelt-past t w words p)) q.0)
     where
-      no-string : (o : Opened) → p.string ≡ Some o → ⊥
+      no-string : (o : OpenString) → p.string ≡ Some o → ⊥
       no-string o k = let g : None ≡ Some o = sym none ∙ k in absurd (cc)
 
   -- it ends one
@@ -153,6 +159,6 @@ module _ (p : Place) (s : State) (y : List ℕ) (m : Matches p s y) (none : p.st
           (λ o k. inl (sym (ap quote_of k)))
           (subst (λ past. Stack (nested shape.CloseBrace end e).nesting (frames past) outer) (sym (spelt-past shape.CloseBrace (125 ∷ []) [] p)) (subst (λ r. Stack (closed end e).nesting (drop 1 (frames (past_of p))) r) q_is st))
         where
-          quote_of : Option Opened → ℕ
+          quote_of : Option OpenString → ℕ
           quote_of (Some o) = o.quote
           quote_of None = 34

@@ -6,7 +6,8 @@ use Rattle.srb_terms.specs.declared.level.Level.TheVariants.{Ignore, False, True
 use Rattle.rb_lex.specs.Chars.{is_in, run_len}
 use Rattle.rb_lex.specs.Levels.{level_named, behind_blanks, word_len, level_alone, level_in}
 use Rattle.rb_lex.specs.declared.chars.Set.TheVariants as set
-use Rattle.rb_lex_laws.specs.Levels.{word_of_level, AreBlank, GivenLevelsAreFound}
+use Rattle.rb_lex_laws.specs.Levels.{GivenLevelsAreFound}
+use Rattle.rb_rules.specs.Levels.{word_of_level, AreBlank}
 use Rattle.rb_lex_laws.proofs.Longest.{and-left, and-right, run-ends}
 
 pub drop-front : (a z : List ℕ) → drop (length a) (a ++ z) ≡ z

@@ -1,14 +1,13 @@
 -- Of a word that is known the lists of words hold it.
-use Rattle.std.proofs.Common.{◌≡◌, ℕ, ◌==◌, Bool, true, false, if◌then◌else◌, List, [], ◌∷◌, length, map, inl, inr, refl, sym, ap, subst, ◌∙◌, codes}
+use Rattle.std.proofs.Common.{◌≡◌, ℕ, ◌==◌, Bool, true, false, if◌then◌else◌, List, [], ◌∷◌, length, inl, inr, refl, sym, ap, subst, ◌∙◌, codes}
 use Rattle.std.specs.Prelude.{bytes_eq}
 use Rattle.std.proofs.lemmas.Slice.Eq.{bytes_eq-Decides}
 use Rattle.rb_tree.specs.declared.token.Shape.{Shape}
 use Rattle.rb_tree.specs.declared.token.Shape.TheVariants as shape
-use Rattle.rb_lex.specs.Words.{lookup, word_of}
+use Rattle.rb_lex.specs.Words.{OF_TWO, OF_THREE, OF_FOUR, OF_FIVE, OF_SIX, OF_EIGHT, OF_TWELVE, lookup, word_of}
 use Rattle.rb_lex.specs.declared.word.Word.{Word}
 use Rattle.rb_lex.specs.declared.word.Word.TheVariants.{Free, Keyword, Foreign}
-use Rattle.rb_lex.specs.declared.word.TheConstants.{TWO, THREE, FOUR, FIVE, SIX, EIGHT, TWELVE}
-use Rattle.rb_lex_laws.specs.Spellings.{Holds, KEYWORDS, FOREIGN_WORDS}
+use Rattle.rb_rules.specs.Spellings.{Holds, KEYWORDS, FOREIGN_WORDS}
 use Rattle.rb_lex_laws.specs.Words.{KnownKeywordsAreListed, KnownForeignWordsAreListed}
 use Rattle.rb_lex_laws.proofs.Rows.{EachRow, at-row}
 
@@ -44,47 +43,47 @@ listed : (t : Shape) (w : List ℕ) → Holds (t, w) KEYWORDS → (s : Shape) �
 unfolding shape_in
 listed t w held s e = let P : Shape → Type 0 = λ u. Holds (u, w) KEYWORDS in subst P (ap (shape_in t) e) held
 
-listed-TWO : EachRow IsListed (map (λ entry. (entry.0.now, entry.1)) TWO)
+listed-TWO : EachRow IsListed OF_TWO
 listed-TWO = (listed shape.If (codes "if") (inr (inr (inr (inr (inl refl))))), (listed shape.Do (codes "do") (inr (inr (inr (inr (inr (inr (inr (inr (inr (inr (inl refl))))))))))), (λ s e. absurd (cc), (λ s e. absurd (cc), tt))))
 
-foreign-TWO : EachRow IsListedForeign (map (λ entry. (entry.0.now, entry.1)) TWO)
-foreign-TWO = (λ e. absurd (cc), (λ e. absurd (cc), (λ e. inr (inl refl), (λ e. inr (inr (inr (inr (inr (inr (inr (inr (inr (inr (inr (inr (inl refl)))))))))))), tt))))
+foreign-TWO : EachRow IsListedForeign OF_TWO
+foreign-TWO = (λ e. absurd (cc), (λ e. absurd (cc), (λ e. inr (inl refl), (λ e. inr (inr (inr (inr (inr (inr (inr (inr (inr (inl refl))))))))), tt))))
 
-listed-THREE : EachRow IsListed (map (λ entry. (entry.0.now, entry.1)) THREE)
+listed-THREE : EachRow IsListed OF_THREE
 listed-THREE = (listed shape.Def (codes "def") (inr (inr (inl refl))), (listed shape.End (codes "end") (inr (inr (inr (inl refl)))), (listed shape.Nil (codes "nil") (inr (inr (inr (inr (inr (inr (inr (inr (inr (inr (inr (inr (inr (inr (inr (inr (inr (inr (inl refl))))))))))))))))))), (λ s e. absurd (cc), (λ s e. absurd (cc), (λ s e. absurd (cc), (λ s e. absurd (cc), tt)))))))
 
-foreign-THREE : EachRow IsListedForeign (map (λ entry. (entry.0.now, entry.1)) THREE)
-foreign-THREE = (λ e. absurd (cc), (λ e. absurd (cc), (λ e. absurd (cc), (λ e. inl refl, (λ e. inr (inr (inl refl)), (λ e. inr (inr (inr (inr (inr (inr (inr (inr (inr (inr (inr (inl refl))))))))))), (λ e. inr (inr (inr (inr (inr (inr (inr (inr (inr (inr (inr (inr (inr (inr (inl refl)))))))))))))), tt)))))))
+foreign-THREE : EachRow IsListedForeign OF_THREE
+foreign-THREE = (λ e. absurd (cc), (λ e. absurd (cc), (λ e. absurd (cc), (λ e. inl refl, (λ e. inr (inr (inl refl)), (λ e. inr (inr (inr (inr (inr (inr (inr (inr (inl refl)))))))), (λ e. inr (inr (inr (inr (inr (inr (inr (inr (inr (inr (inr (inl refl))))))))))), tt)))))))
 
-listed-FOUR : EachRow IsListed (map (λ entry. (entry.0.now, entry.1)) FOUR)
+listed-FOUR : EachRow IsListed OF_FOUR
 listed-FOUR = (listed shape.SelfWord (codes "self") (inr (inr (inr (inr (inr (inr (inr (inr (inr (inr (inr (inr (inr (inr (inr (inr (inr (inl refl)))))))))))))))))), (listed shape.True (codes "true") (inr (inr (inr (inr (inr (inr (inr (inr (inr (inr (inr (inr (inr (inr (inr (inr (inr (inr (inr (inl refl)))))))))))))))))))), (listed shape.Else (codes "else") (inr (inr (inr (inr (inr (inr (inl refl))))))), (listed shape.Case (codes "case") (inr (inr (inr (inr (inr (inr (inr (inr (inr (inr (inr (inl refl)))))))))))), (listed shape.When (codes "when") (inr (inr (inr (inr (inr (inr (inr (inr (inr (inr (inr (inr (inl refl))))))))))))), (listed shape.Then (codes "then") (inr (inr (inr (inr (inr (inr (inr (inr (inr (inr (inr (inr (inr (inl refl)))))))))))))), (listed shape.Next (codes "next") (inr (inr (inr (inr (inr (inr (inr (inr (inr (inr (inr (inr (inr (inr (inr (inr (inl refl))))))))))))))))), (λ s e. absurd (cc), tt))))))))
 
-foreign-FOUR : EachRow IsListedForeign (map (λ entry. (entry.0.now, entry.1)) FOUR)
-foreign-FOUR = (λ e. absurd (cc), (λ e. absurd (cc), (λ e. absurd (cc), (λ e. absurd (cc), (λ e. absurd (cc), (λ e. absurd (cc), (λ e. absurd (cc), (λ e. inr (inr (inr (inr (inr (inr (inr (inl refl))))))), tt))))))))
+foreign-FOUR : EachRow IsListedForeign OF_FOUR
+foreign-FOUR = (λ e. absurd (cc), (λ e. absurd (cc), (λ e. absurd (cc), (λ e. absurd (cc), (λ e. absurd (cc), (λ e. absurd (cc), (λ e. absurd (cc), (λ e. inr (inr (inr (inr (inl refl)))), tt))))))))
 
-listed-FIVE : EachRow IsListed (map (λ entry. (entry.0.now, entry.1)) FIVE)
-listed-FIVE = (listed shape.Class (codes "class") (inl refl), (listed shape.Elsif (codes "elsif") (inr (inr (inr (inr (inr (inl refl)))))), (listed shape.While (codes "while") (inr (inr (inr (inr (inr (inr (inr (inr (inl refl))))))))), (listed shape.Until (codes "until") (inr (inr (inr (inr (inr (inr (inr (inr (inr (inl refl)))))))))), (listed shape.Break (codes "break") (inr (inr (inr (inr (inr (inr (inr (inr (inr (inr (inr (inr (inr (inr (inr (inl refl)))))))))))))))), (listed shape.False (codes "false") (inr (inr (inr (inr (inr (inr (inr (inr (inr (inr (inr (inr (inr (inr (inr (inr (inr (inr (inr (inr (inl refl))))))))))))))))))))), (listed shape.Yield (codes "yield") (inr (inr (inr (inr (inr (inr (inr (inr (inr (inr (inr (inr (inr (inr (inr (inr (inr (inr (inr (inr (inr (inl refl)))))))))))))))))))))), (listed shape.Super (codes "super") (inr (inr (inr (inr (inr (inr (inr (inr (inr (inr (inr (inr (inr (inr (inr (inr (inr (inr (inr (inr (inr (inr (inl refl))))))))))))))))))))))), (λ s e. absurd (cc), (λ s e. absurd (cc), (λ s e. absurd (cc), (λ s e. absurd (cc), (λ s e. absurd (cc), tt)))))))))))))
+listed-FIVE : EachRow IsListed OF_FIVE
+listed-FIVE = (listed shape.Class (codes "class") (inl refl), (listed shape.Elsif (codes "elsif") (inr (inr (inr (inr (inr (inl refl)))))), (listed shape.While (codes "while") (inr (inr (inr (inr (inr (inr (inr (inr (inl refl))))))))), (listed shape.Until (codes "until") (inr (inr (inr (inr (inr (inr (inr (inr (inr (inl refl)))))))))), (listed shape.Break (codes "break") (inr (inr (inr (inr (inr (inr (inr (inr (inr (inr (inr (inr (inr (inr (inr (inl refl)))))))))))))))), (listed shape.False (codes "false") (inr (inr (inr (inr (inr (inr (inr (inr (inr (inr (inr (inr (inr (inr (inr (inr (inr (inr (inr (inr (inl refl))))))))))))))))))))), (listed shape.Yield (codes "yield") (inr (inr (inr (inr (inr (inr (inr (inr (inr (inr (inr (inr (inr (inr (inr (inr (inr (inr (inr (inr (inr (inl refl)))))))))))))))))))))), (listed shape.Super (codes "super") (inr (inr (inr (inr (inr (inr (inr (inr (inr (inr (inr (inr (inr (inr (inr (inr (inr (inr (inr (inr (inr (inr (inl refl))))))))))))))))))))))), (listed shape.Begin (codes "begin") (inr (inr (inr (inr (inr (inr (inr (inr (inr (inr (inr (inr (inr (inr (inr (inr (inr (inr (inr (inr (inr (inr (inr (inl refl)))))))))))))))))))))))), (λ s e. absurd (cc), (λ s e. absurd (cc), (λ s e. absurd (cc), (λ s e. absurd (cc), tt)))))))))))))
 
-foreign-FIVE : EachRow IsListedForeign (map (λ entry. (entry.0.now, entry.1)) FIVE)
-foreign-FIVE = (λ e. absurd (cc), (λ e. absurd (cc), (λ e. absurd (cc), (λ e. absurd (cc), (λ e. absurd (cc), (λ e. absurd (cc), (λ e. absurd (cc), (λ e. absurd (cc), (λ e. inr (inr (inr (inl refl))), (λ e. inr (inr (inr (inr (inr (inr (inl refl)))))), (λ e. inr (inr (inr (inr (inr (inr (inr (inr (inl refl)))))))), (λ e. inr (inr (inr (inr (inr (inr (inr (inr (inr (inl refl))))))))), (λ e. inr (inr (inr (inr (inr (inr (inr (inr (inr (inr (inr (inr (inr (inl refl))))))))))))), tt)))))))))))))
+foreign-FIVE : EachRow IsListedForeign OF_FIVE
+foreign-FIVE = (λ e. absurd (cc), (λ e. absurd (cc), (λ e. absurd (cc), (λ e. absurd (cc), (λ e. absurd (cc), (λ e. absurd (cc), (λ e. absurd (cc), (λ e. absurd (cc), (λ e. absurd (cc), (λ e. inr (inr (inr (inl refl))), (λ e. inr (inr (inr (inr (inr (inl refl))))), (λ e. inr (inr (inr (inr (inr (inr (inl refl)))))), (λ e. inr (inr (inr (inr (inr (inr (inr (inr (inr (inr (inl refl)))))))))), tt)))))))))))))
 
-listed-SIX : EachRow IsListed (map (λ entry. (entry.0.now, entry.1)) SIX)
-listed-SIX = (listed shape.Module (codes "module") (inr (inl refl)), (listed shape.Return (codes "return") (inr (inr (inr (inr (inr (inr (inr (inr (inr (inr (inr (inr (inr (inr (inl refl))))))))))))))), (listed shape.Unless (codes "unless") (inr (inr (inr (inr (inr (inr (inr (inl refl)))))))), (λ s e. absurd (cc), (λ s e. absurd (cc), tt)))))
+listed-SIX : EachRow IsListed OF_SIX
+listed-SIX = (listed shape.Module (codes "module") (inr (inl refl)), (listed shape.Return (codes "return") (inr (inr (inr (inr (inr (inr (inr (inr (inr (inr (inr (inr (inr (inr (inl refl))))))))))))))), (listed shape.Unless (codes "unless") (inr (inr (inr (inr (inr (inr (inr (inl refl)))))))), (listed shape.Rescue (codes "rescue") (inr (inr (inr (inr (inr (inr (inr (inr (inr (inr (inr (inr (inr (inr (inr (inr (inr (inr (inr (inr (inr (inr (inr (inr (inl refl))))))))))))))))))))))))), (listed shape.Ensure (codes "ensure") (inr (inr (inr (inr (inr (inr (inr (inr (inr (inr (inr (inr (inr (inr (inr (inr (inr (inr (inr (inr (inr (inr (inr (inr (inr (inl refl)))))))))))))))))))))))))), tt)))))
 
-foreign-SIX : EachRow IsListedForeign (map (λ entry. (entry.0.now, entry.1)) SIX)
-foreign-SIX = (λ e. absurd (cc), (λ e. absurd (cc), (λ e. absurd (cc), (λ e. inr (inr (inr (inr (inl refl)))), (λ e. inr (inr (inr (inr (inr (inl refl))))), tt)))))
+foreign-SIX : EachRow IsListedForeign OF_SIX
+foreign-SIX = (λ e. absurd (cc), (λ e. absurd (cc), (λ e. absurd (cc), (λ e. absurd (cc), (λ e. absurd (cc), tt)))))
 
-listed-EIGHT : EachRow IsListed (map (λ entry. (entry.0.now, entry.1)) EIGHT)
+listed-EIGHT : EachRow IsListed OF_EIGHT
 listed-EIGHT = (λ s e. absurd (cc), (λ s e. absurd (cc), (λ s e. absurd (cc), tt)))
 
-foreign-EIGHT : EachRow IsListedForeign (map (λ entry. (entry.0.now, entry.1)) EIGHT)
-foreign-EIGHT = (λ e. inr (inr (inr (inr (inr (inr (inr (inr (inr (inr (inl refl)))))))))), (λ e. inr (inr (inr (inr (inr (inr (inr (inr (inr (inr (inr (inr (inr (inr (inr (inl refl))))))))))))))), (λ e. inr (inr (inr (inr (inr (inr (inr (inr (inr (inr (inr (inr (inr (inr (inr (inr (inl refl)))))))))))))))), tt)))
+foreign-EIGHT : EachRow IsListedForeign OF_EIGHT
+foreign-EIGHT = (λ e. inr (inr (inr (inr (inr (inr (inr (inl refl))))))), (λ e. inr (inr (inr (inr (inr (inr (inr (inr (inr (inr (inr (inr (inl refl)))))))))))), (λ e. inr (inr (inr (inr (inr (inr (inr (inr (inr (inr (inr (inr (inr (inl refl))))))))))))), tt)))
 
-listed-TWELVE : EachRow IsListed (map (λ entry. (entry.0.now, entry.1)) TWELVE)
+listed-TWELVE : EachRow IsListed OF_TWELVE
 listed-TWELVE = (λ s e. absurd (cc), tt)
 
-foreign-TWELVE : EachRow IsListedForeign (map (λ entry. (entry.0.now, entry.1)) TWELVE)
-foreign-TWELVE = (λ e. inr (inr (inr (inr (inr (inr (inr (inr (inr (inr (inr (inr (inr (inr (inr (inr (inr (inl refl))))))))))))))))), tt)
+foreign-TWELVE : EachRow IsListedForeign OF_TWELVE
+foreign-TWELVE = (λ e. inr (inr (inr (inr (inr (inr (inr (inr (inr (inr (inr (inr (inr (inr (inl refl)))))))))))))), tt)
 
 keyword-row : (rows : List Row) → EachRow IsListed rows → (s : Shape) (w : List ℕ) → lookup rows w ≡ Keyword s → Holds (s, w) KEYWORDS
 keyword-row rows each s w e = at-row IsListed (w, Keyword s) rows each (looked-up rows w (Keyword s) (λ h. cc) e) s refl
@@ -98,8 +97,8 @@ by-length false one other x P f g e = g e
 
 pub keywords-listed : KnownKeywordsAreListed
 unfolding word_of
-keywords-listed s w = (by-length (length w == 2) _ _ (Keyword s) (Holds (s, w) KEYWORDS) (keyword-row (map (λ entry. (entry.0.now, entry.1)) TWO) listed-TWO s w) (by-length (length w == 3) _ _ (Keyword s) (Holds (s, w) KEYWORDS) (keyword-row (map (λ entry. (entry.0.now, entry.1)) THREE) listed-THREE s w) (by-length (length w == 4) _ _ (Keyword s) (Holds (s, w) KEYWORDS) (keyword-row (map (λ entry. (entry.0.now, entry.1)) FOUR) listed-FOUR s w) (by-length (length w == 5) _ _ (Keyword s) (Holds (s, w) KEYWORDS) (keyword-row (map (λ entry. (entry.0.now, entry.1)) FIVE) listed-FIVE s w) (by-length (length w == 6) _ _ (Keyword s) (Holds (s, w) KEYWORDS) (keyword-row (map (λ entry. (entry.0.now, entry.1)) SIX) listed-SIX s w) (by-length (length w == 8) _ _ (Keyword s) (Holds (s, w) KEYWORDS) (keyword-row (map (λ entry. (entry.0.now, entry.1)) EIGHT) listed-EIGHT s w) (by-length (length w == 12) _ _ (Keyword s) (Holds (s, w) KEYWORDS) (keyword-row (map (λ entry. (entry.0.now, entry.1)) TWELVE) listed-TWELVE s w) (λ e. absurd (cc)))))))))
+keywords-listed s w = (by-length (length w == 2) _ _ (Keyword s) (Holds (s, w) KEYWORDS) (keyword-row OF_TWO listed-TWO s w) (by-length (length w == 3) _ _ (Keyword s) (Holds (s, w) KEYWORDS) (keyword-row OF_THREE listed-THREE s w) (by-length (length w == 4) _ _ (Keyword s) (Holds (s, w) KEYWORDS) (keyword-row OF_FOUR listed-FOUR s w) (by-length (length w == 5) _ _ (Keyword s) (Holds (s, w) KEYWORDS) (keyword-row OF_FIVE listed-FIVE s w) (by-length (length w == 6) _ _ (Keyword s) (Holds (s, w) KEYWORDS) (keyword-row OF_SIX listed-SIX s w) (by-length (length w == 8) _ _ (Keyword s) (Holds (s, w) KEYWORDS) (keyword-row OF_EIGHT listed-EIGHT s w) (by-length (length w == 12) _ _ (Keyword s) (Holds (s, w) KEYWORDS) (keyword-row OF_TWELVE listed-TWELVE s w) (λ e. absurd (cc)))))))))
 
 pub foreign-listed : KnownForeignWordsAreListed
 unfolding word_of
-foreign-listed w = (by-length (length w == 2) _ _ (Foreign) (Holds w FOREIGN_WORDS) (foreign-row (map (λ entry. (entry.0.now, entry.1)) TWO) foreign-TWO w) (by-length (length w == 3) _ _ (Foreign) (Holds w FOREIGN_WORDS) (foreign-row (map (λ entry. (entry.0.now, entry.1)) THREE) foreign-THREE w) (by-length (length w == 4) _ _ (Foreign) (Holds w FOREIGN_WORDS) (foreign-row (map (λ entry. (entry.0.now, entry.1)) FOUR) foreign-FOUR w) (by-length (length w == 5) _ _ (Foreign) (Holds w FOREIGN_WORDS) (foreign-row (map (λ entry. (entry.0.now, entry.1)) FIVE) foreign-FIVE w) (by-length (length w == 6) _ _ (Foreign) (Holds w FOREIGN_WORDS) (foreign-row (map (λ entry. (entry.0.now, entry.1)) SIX) foreign-SIX w) (by-length (length w == 8) _ _ (Foreign) (Holds w FOREIGN_WORDS) (foreign-row (map (λ entry. (entry.0.now, entry.1)) EIGHT) foreign-EIGHT w) (by-length (length w == 12) _ _ (Foreign) (Holds w FOREIGN_WORDS) (foreign-row (map (λ entry. (entry.0.now, entry.1)) TWELVE) foreign-TWELVE w) (λ e. absurd (cc)))))))))
+foreign-listed w = (by-length (length w == 2) _ _ (Foreign) (Holds w FOREIGN_WORDS) (foreign-row OF_TWO foreign-TWO w) (by-length (length w == 3) _ _ (Foreign) (Holds w FOREIGN_WORDS) (foreign-row OF_THREE foreign-THREE w) (by-length (length w == 4) _ _ (Foreign) (Holds w FOREIGN_WORDS) (foreign-row OF_FOUR foreign-FOUR w) (by-length (length w == 5) _ _ (Foreign) (Holds w FOREIGN_WORDS) (foreign-row OF_FIVE foreign-FIVE w) (by-length (length w == 6) _ _ (Foreign) (Holds w FOREIGN_WORDS) (foreign-row OF_SIX foreign-SIX w) (by-length (length w == 8) _ _ (Foreign) (Holds w FOREIGN_WORDS) (foreign-row OF_EIGHT foreign-EIGHT w) (by-length (length w == 12) _ _ (Foreign) (Holds w FOREIGN_WORDS) (foreign-row OF_TWELVE foreign-TWELVE w) (λ e. absurd (cc)))))))))

@@ -9,9 +9,9 @@ use Rattle.rb_lex.specs.Words.{identifier_len}
 use Rattle.rb_lex.specs.Numbers.{digits_len, more_digits, begins_digits}
 use Rattle.rb_lex.specs.declared.chars.Set.{Set}
 use Rattle.rb_lex.specs.declared.chars.Set.TheVariants as set
-use Rattle.rb_lex_laws.specs.Spellings.{IsNamed, AreDigits, Begins}
-use Rattle.rb_lex_laws.specs.Spellings.IsIdentifier.{Plain, Asking, Shouting}
-use Rattle.rb_lex_laws.specs.Spellings.AreDigits.{One, More, Parted}
+use Rattle.rb_rules.specs.Spellings.{IsNamed, AreDigits, Begins}
+use Rattle.rb_rules.specs.Spellings.IsIdentifier.{Plain, Asking, Shouting}
+use Rattle.rb_rules.specs.Spellings.AreDigits.{One, More, Parted}
 use Rattle.rb_lex_laws.specs.Longest.{IdentifiersAreLongest, ConstantsAreLongest, DigitsAreLongest}
 
 pub and-left : (a b : Bool) → (a && b) ≡ true → a ≡ true
@@ -116,10 +116,10 @@ digits-at-most : (s : Set) (z : List ℕ) → digits_len s z ≤ more_digits s z
 digits-at-most s z =
     elim (begins_digits s z) as (λ t. (if t then more_digits s z else 0) ≤ more_digits s z) [ true ↦ omega arith | false ↦ omega arith ]
 
-first-digit : (s : Set) (w rest : List ℕ) → AreDigits s w → is_in s (slice_index (w ++ rest) 0) ≡ true
-first-digit s _ rest (One _ d h) = h
-first-digit s _ rest (More _ d w h more) = h
-first-digit s _ rest (Parted _ d w h more) = h
+first-digit : (s : Set) (w rest : List ℕ) → AreDigits (is_in s) w → is_in s (slice_index (w ++ rest) 0) ≡ true
+first-digit s _ rest (One d h) = h
+first-digit s _ rest (More d w h more) = h
+first-digit s _ rest (Parted d w h more) = h
 
 or-true : (b : Bool) → (b || true) ≡ true
 or-true true = refl
@@ -131,13 +131,13 @@ parted s z h =
     ∙ ap (λ t. if t then 1 + more_digits s z else 0) (or-true (is_in s 95))
 
 pub digits-longest : DigitsAreLongest
-digits-longest s _ rest (One _ d h) = let e = digits-more s d rest h in omega arith
-digits-longest s _ rest (More _ d w h more) =
+digits-longest s _ rest (One d h) = let e = digits-more s d rest h in omega arith
+digits-longest s _ rest (More d w h more) =
     let e = digits-more s d (w ++ rest) h in
     let within = digits-longest s w rest more in
     let most = digits-at-most s (w ++ rest) in
     omega arith
-digits-longest s _ rest (Parted _ d w h more) =
+digits-longest s _ rest (Parted d w h more) =
     let e = digits-more s d (95 ∷ w ++ rest) h in
     let u = parted s (w ++ rest) (first-digit s w rest more) in
     let within = digits-longest s w rest more in

@@ -9,7 +9,7 @@ use Rattle.rb_tree.specs.declared.token.Shape.{Shape}
 use Rattle.rb_tree.specs.declared.token.Shape.TheVariants as shape
 use Rattle.rb_lex.specs.Chars.{is_in, run_len, begins_name, is_upper, is_letter, is_spaced}
 use Rattle.rb_lex.specs.Words.{identifier_len, ends_with_equals, symbol_len}
-use Rattle.rb_lex.specs.Numbers.{spelling_of, is_foreign, fits, digits_in}
+use Rattle.rb_lex.specs.Numbers.{spelling_of, is_foreign, fits, digits_in, base_of}
 use Rattle.rb_lex.specs.Operators.{found, operator, method_name}
 use Rattle.rb_lex.specs.Cuts.{names_method, is_operand_end, is_constant, is_strange_opening, begins_here_document, is_outside, is_bad, is_closing, behind_operator, token, number, variable, judged, sign_at, sign, colon}
 use Rattle.rb_lex.specs.Lexed.{words_of, kind_of}
@@ -20,10 +20,10 @@ use Rattle.rb_lex.specs.declared.cut.Before.TheVariants as before
 use Rattle.rb_lex.specs.declared.cut.Look.{Look}
 use Rattle.rb_lex.specs.declared.cut.Cut.{Cut}
 use Rattle.rb_lex.specs.declared.cut.Cut.TheVariants as cuts
-use Rattle.rb_lex_laws.specs.Spellings.{Begins, Holds, IsNamed, IsIdentifier, IsSymbolName, OPERATORS, METHOD_OPERATORS, FOREIGN_OPERATORS}
-use Rattle.rb_lex_laws.specs.Numbers.{value_of, number_from}
-use Rattle.rb_lex_laws.specs.Before.{NamesMethod, IsOperandEnd}
-use Rattle.rb_lex_laws.specs.Lexes.{Spells, IsLongest, IsForeign}
+use Rattle.rb_rules.specs.Spellings.{Begins, Holds, IsNamed, IsIdentifier, IsSymbolName, OPERATORS, METHOD_OPERATORS, FOREIGN_OPERATORS}
+use Rattle.rb_rules.specs.Numerals.{value_of, number_from}
+use Rattle.rb_rules.specs.Before.{NamesMethod, IsOperandEnd}
+use Rattle.rb_rules.specs.Lexes.{Spells, IsLongest, IsForeign}
 use Rattle.rb_lex_laws.proofs.Lists.{split, if-true, if-false, and-both, or-either, or-neither, not-true, not-false, not-of, no-both, eq-is, eq-not, tail-at, take-front, front-same, tail-same, false-of, begins-is, begins-parts, begins-not, not-begins}
 use Rattle.rb_lex_laws.proofs.Best.{Best, IsSame, below-or, no-foreign, longest-of}
 use Rattle.rb_lex_laws.proofs.Blanks.{spaced-not}
@@ -86,7 +86,7 @@ module _ (past : List Shape) (look : Look) (d : ℕ) (u : List ℕ) (digit : is_
       at-least : (k : ℕ) → ¬ (k < 2 ^ 128) → 2 ^ 128 ≤ k
       at-least k most = omega arith
 
-      by : (k : ℕ) → number_from (spelling_of (d ∷ u)).digits 0 (digits_in (spelling_of (d ∷ u)) (d ∷ u)) ≡ k → 2 ^ 128 ≤ k
+      by : (k : ℕ) → number_from (base_of (spelling_of (d ∷ u)).digits) 0 (digits_in (spelling_of (d ∷ u)) (d ∷ u)) ≡ k → 2 ^ 128 ≤ k
       by k e =
           let n = spelling_of (d ∷ u) in
           at-least k (λ small. no-both (fits 0 n.digits (digits_in n (d ∷ u))) ((fits-small n.digits 0 (digits_in n (d ∷ u)) (omega arith)).1 (subst (λ j. j < 2 ^ 128) (sym e) small)) h)

@@ -16,9 +16,9 @@ use Rattle.rb_lex.specs.declared.cut.Cut.{Cut}
 use Rattle.rb_lex.specs.declared.cut.Cut.TheVariants as cuts
 use Rattle.rb_lex.specs.declared.word.Word.{Word}
 use Rattle.rb_lex.specs.declared.word.Word.TheVariants as word
-use Rattle.rb_lex_laws.specs.Spellings.{Begins, Holds, IsIdentifier, IsConstant, KEYWORDS, FOREIGN_OPERATORS}
-use Rattle.rb_lex_laws.specs.Before.{IsBehindDot}
-use Rattle.rb_lex_laws.specs.Lexes.{IsWord, Spells, IsWholeName, IsForeign}
+use Rattle.rb_rules.specs.Spellings.{Begins, Holds, IsIdentifier, IsConstant, KEYWORDS, FOREIGN_OPERATORS}
+use Rattle.rb_rules.specs.Before.{IsBehindDot}
+use Rattle.rb_rules.specs.Lexes.{IsWord, Spells, IsWholeName, IsForeign}
 use Rattle.rb_lex_laws.proofs.Best.{Best, IsSame, below-or, no-foreign, keyword-begins, free-word, one-keyword}
 use Rattle.rb_lex_laws.proofs.Lists.{split, both-and, and-both, not-of, not-true, no-both, is-begins, begins-is, begins-not, begins-parts, front-same, take-front, tail-at, on-begins, begins-on}
 use Rattle.rb_lex_laws.proofs.Listed.{keywords-listed, foreign-listed}

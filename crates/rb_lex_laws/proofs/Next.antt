@@ -16,7 +16,7 @@ use Rattle.rb_lex.specs.declared.cut.Cut.TheVariants as cuts
 use Rattle.rb_lex.specs.declared.state.State.{State}
 use Rattle.rb_lex.specs.declared.LexEnd.{LexEnd}
 use Rattle.rb_lex.specs.declared.LexEnd.TheVariants as ends
-use Rattle.rb_lex_laws.specs.Lexes.{Spells, IsLongest, IsForeign, IsWrong, Place, past_of, spelt, IsReturn}
+use Rattle.rb_rules.specs.Lexes.{Spells, IsLongest, IsForeign, IsWrong, Place, past_of, spelt, IsReturn}
 use Rattle.rb_lex_laws.proofs.Lists.{head-same, drop-front, eq-not, and-both, or-either, no-both, eq-is, false-of, begins-is, begins-parts}
 use Rattle.rb_lex_laws.proofs.Best.{Best, best-same, longest-of}
 use Rattle.rb_lex_laws.proofs.Blanks.{goes_on, blank_here, Blank, blank-of, blank-here, last-test}
@@ -29,7 +29,7 @@ use Rattle.rb_lex_laws.proofs.Shown.{Says}
 use Rattle.rb_lex_laws.proofs.Steps.{code-cut, refused, advance, dot-cut, safe-cut}
 use Rattle.rb_lex_laws.proofs.Strings.{enc-len}
 use Rattle.rb_lex_laws.proofs.Verdicts.{Seen, seen}
-use Rattle.rb_lex_laws.proofs.Beside.{Matches, Fresh, entered-fresh, dot-fresh, safe-fresh}
+use Rattle.rb_lex_laws.proofs.Beside.{Matches, Fresh, entered-fresh, dot-fresh, safe-fresh, held_string}
 use Rattle.rb_lex_laws.proofs.Landing.{Single, spells-single, goes-needs, Landed, returned, behind-fresh, lands, returns}
 
 -- ---- over bytes too no blank, line's end, comment or string begins
@@ -89,7 +89,7 @@ spelling-some past t w words rest h = let b = spells-begin past t w words rest h
 
 module _ (p : Place) (s : State) (z : List ℕ) (m : Matches p s z) (none : p.string ≡ None) (o : Other z) where
   code : s.string ≡ None
-  code = m.string_is ∙ none
+  code = m.string_is ∙ ap held_string none
 
   -- the step goes on behind the spelling
   steps : (w rest : List ℕ) (n : ℕ) (more : State) (q : Place) → enc z ≡ w ++ enc rest → 0 < length w → n ≡ length w → q.at ≡ p.at + length w → step p.at (enc z) s ≡ Ok (n, more) → Matches q more rest → Landed p p.at s (enc z) q rest

@@ -7,17 +7,17 @@ use Rattle.std.proofs.lemmas.Bool.Decides.{nat_tests}
 use Rattle.rb_tree.specs.declared.token.Shape.{Shape}
 use Rattle.rb_tree.specs.declared.token.Shape.TheVariants as shape
 use Rattle.rb_lex.specs.Chars.{is_in}
-use Rattle.rb_lex.specs.Numbers.{more_digits, digits_len, exponent_end, fraction_end, based, decimal, spelling_of, digits_in}
+use Rattle.rb_lex.specs.Numbers.{more_digits, digits_len, exponent_end, fraction_end, based, decimal, spelling_of, digits_in, base_of}
 use Rattle.rb_lex.specs.declared.number.Spelling.{Spelling}
 use Rattle.rb_lex.specs.declared.chars.Set.{Set}
 use Rattle.rb_lex.specs.declared.chars.Set.TheVariants as set
-use Rattle.rb_lex_laws.specs.Spellings.{Holds, AreDigits, IsExponent, IsWhole, IsFloat, FOREIGN_OPERATORS}
-use Rattle.rb_lex_laws.specs.Spellings.AreDigits.{One, More, Parted}
-use Rattle.rb_lex_laws.specs.Spellings.IsExponent.{Missing, Unsigned, Raised, Lowered}
-use Rattle.rb_lex_laws.specs.Spellings.IsWhole.{Zero, Decimal, Hexadecimal, Binary, Octal}
-use Rattle.rb_lex_laws.specs.Spellings.IsFloat.{Fraction}
-use Rattle.rb_lex_laws.specs.Numbers.{value_of, number_from}
-use Rattle.rb_lex_laws.specs.Lexes.{Spells}
+use Rattle.rb_rules.specs.Spellings.{Holds, AreDigits, IsExponent, IsWhole, IsFloat, FOREIGN_OPERATORS}
+use Rattle.rb_rules.specs.Spellings.AreDigits.{One, More, Parted}
+use Rattle.rb_rules.specs.Spellings.IsExponent.{Missing, Unsigned, Raised, Lowered}
+use Rattle.rb_rules.specs.Spellings.IsWhole.{Zero, Decimal, Hexadecimal, Binary, Octal}
+use Rattle.rb_rules.specs.Spellings.IsFloat.{Fraction}
+use Rattle.rb_rules.specs.Numerals.{value_of, number_from}
+use Rattle.rb_rules.specs.Lexes.{Spells}
 use Rattle.rb_lex_laws.proofs.Lists.{split, if-true, if-false, and-both, both-and, not-true, not-false, no-both, eq-is, is-eq, eq-not, tail-at, take-front, front-same, head-same, tail-same}
 use Rattle.rb_lex_laws.proofs.Best.{Best, IsSame, below-or, no-foreign}
 use Rattle.rb_lex_laws.proofs.Digits.{goes_on, Digits, digits-of, digits_len-more, digits-end, digits-first, exponent_len, exponent-end, exponent-of, exponent-most}
@@ -47,14 +47,14 @@ exponent-least z at = by (not (slice_index z at == 101)) (is_in set.Decimal (sli
     by false false true j k = omega arith
     by false false false j k = omega arith
 
-digits-at : (a r : List ℕ) → AreDigits set.Decimal a → goes_on set.Decimal r ≡ false → digits_len set.Decimal (a ++ r) ≡ length a
+digits-at : (a r : List ℕ) → AreDigits (is_in set.Decimal) a → goes_on set.Decimal r ≡ false → digits_len set.Decimal (a ++ r) ≡ length a
 digits-at a r h stops = digits_len-more set.Decimal (a ++ r) (digits-first set.Decimal a r h) ∙ digits-end set.Decimal a r h stops
 
 -- the length that is computed for a float
 abbrev float_len : List ℕ → ℕ
 float_len y = fraction_end y (digits_len set.Decimal y)
 
-float-at : (a b x : List ℕ) → AreDigits set.Decimal a → AreDigits set.Decimal b → float_len (a ++ 46 ∷ (b ++ x)) ≡ exponent_end (a ++ 46 ∷ (b ++ x)) (length a + 1 + digits_len set.Decimal (b ++ x))
+float-at : (a b x : List ℕ) → AreDigits (is_in set.Decimal) a → AreDigits (is_in set.Decimal) b → float_len (a ++ 46 ∷ (b ++ x)) ≡ exponent_end (a ++ 46 ∷ (b ++ x)) (length a + 1 + digits_len set.Decimal (b ++ x))
 float-at a b x ha hb =
     let r = 46 ∷ (b ++ x) in
     ap (fraction_end (a ++ r)) (digits-at a r ha refl) ∙ fraction-end a r
@@ -67,7 +67,7 @@ regroup : (a b x : List ℕ) → (a ++ 46 ∷ b) ++ x ≡ a ++ 46 ∷ (b ++ x)
 regroup a b x = append_assoc a (46 ∷ b) x
 
 -- an exponent behind the digits that are found
-float-exact : (a b x : List ℕ) → AreDigits set.Decimal a → AreDigits set.Decimal b → goes_on set.Decimal x ≡ false → float_len (a ++ 46 ∷ (b ++ x)) ≡ length (a ++ 46 ∷ b) + exponent_len x
+float-exact : (a b x : List ℕ) → AreDigits (is_in set.Decimal) a → AreDigits (is_in set.Decimal) b → goes_on set.Decimal x ≡ false → float_len (a ++ 46 ∷ (b ++ x)) ≡ length (a ++ 46 ∷ b) + exponent_len x
 float-exact a b x ha hb stops =
     let z = a ++ 46 ∷ (b ++ x) in
     let n : length a + 1 + digits_len set.Decimal (b ++ x) ≡ length (a ++ 46 ∷ b) = omega (arith, digits-at b x hb stops, front-len a b) in
@@ -77,7 +77,7 @@ float-parts : (a b e : List ℕ) → length ((a ++ 46 ∷ b) ++ e) ≡ length a 
 float-parts a b e = let f = length-append (a ++ 46 ∷ b) e in let g = front-len a b in omega arith
 
 -- no float at a place is longer
-float-with : (a b e more : List ℕ) → AreDigits set.Decimal a → AreDigits set.Decimal b → IsExponent e → goes_on set.Decimal (e ++ more) ≡ false → length ((a ++ 46 ∷ b) ++ e) ≤ float_len (a ++ 46 ∷ (b ++ (e ++ more)))
+float-with : (a b e more : List ℕ) → AreDigits (is_in set.Decimal) a → AreDigits (is_in set.Decimal) b → IsExponent e → goes_on set.Decimal (e ++ more) ≡ false → length ((a ++ 46 ∷ b) ++ e) ≤ float_len (a ++ 46 ∷ (b ++ (e ++ more)))
 float-with a b e more ha hb he stops =
     let exact = float-exact a b (e ++ more) ha hb stops in
     let most = exponent-most e more he in
@@ -111,7 +111,7 @@ record FloatAt (y : List ℕ) : Type 0 where
   pub len : float_len y ≡ length float
   pub longer : digits_len set.Decimal y < length float
 
-float-there : (a r : List ℕ) → AreDigits set.Decimal a → goes_on set.Decimal r ≡ false → has_fraction r ≡ true → FloatAt (a ++ r)
+float-there : (a r : List ℕ) → AreDigits (is_in set.Decimal) a → goes_on set.Decimal r ≡ false → has_fraction r ≡ true → FloatAt (a ++ r)
 float-there a [] ha stops has = absurd (cc)
 float-there a (c ∷ r) ha stops has =
     let both = and-both (c == 46) (is_in set.Decimal (slice_index (c ∷ r) 1)) has in
@@ -151,7 +151,7 @@ pub record Numeral (past : List Shape) (y : List ℕ) (n : Spelling) : Type 0 wh
   pub rest : List ℕ
   pub best : Best past y (if n.is_float then shape.Float else shape.Whole) number number rest
   pub len : n.len ≡ length number
-  pub value : n.is_float ≡ false → number_from n.digits 0 (digits_in n y) ≡ value_of number
+  pub value : n.is_float ≡ false → number_from (base_of n.digits) 0 (digits_in n y) ≡ value_of number
 
 number-like : (past : List Shape) (d : ℕ) (u : List ℕ) → is_in set.Decimal d ≡ true → (t : Shape) (v os more : List ℕ) → v ++ more ≡ d ∷ u → Spells past t v os more → NumberLike t v os more
 number-like past d u h t v os more e sp = of-kind past t v os more d u Kind.Digit sp e (kind-digit d h)
@@ -172,10 +172,10 @@ float-others y w rest first len longer whole _ _ _ more e (NumberLike.Whole v _ 
     digit : 1 ≤ digits_len set.Decimal y
     digit = let m = digits-of set.Decimal y first in some m.digits m.are (digits_len-more set.Decimal y first ∙ m.more)
       where
-        some : (a : List ℕ) → AreDigits set.Decimal a → digits_len set.Decimal y ≡ length a → 1 ≤ digits_len set.Decimal y
-        some _ (One _ d h) e = omega arith
-        some _ (More _ d a h more) e = omega arith
-        some _ (Parted _ d a h more) e = omega arith
+        some : (a : List ℕ) → AreDigits (is_in set.Decimal) a → digits_len set.Decimal y ≡ length a → 1 ≤ digits_len set.Decimal y
+        some _ (One d h) e = omega arith
+        some _ (More d a h more) e = omega arith
+        some _ (Parted d a h more) e = omega arith
 
     no : {X : Type 0} → float_len y ≡ 0 → X
     no none = absurd (omega arith)
@@ -210,9 +210,9 @@ float-numeral past d u h f =
 
 -- a number to a base
 based-numeral : (past : List Shape) (c : ℕ) (s : Set) (x : List ℕ)
-    → ((w : List ℕ) → AreDigits s w → IsWhole (48 ∷ c ∷ w))
-    → ((v more : List ℕ) → v ++ more ≡ 48 ∷ c ∷ x → IsWhole v → (length v ≡ 1) ⊎ ((u : List ℕ) × (v ≡ 48 ∷ c ∷ u) × AreDigits s u))
-    → ((w : List ℕ) → value_of (48 ∷ c ∷ w) ≡ number_from s 0 w)
+    → ((w : List ℕ) → AreDigits (is_in s) w → IsWhole (48 ∷ c ∷ w))
+    → ((v more : List ℕ) → v ++ more ≡ 48 ∷ c ∷ x → IsWhole v → (length v ≡ 1) ⊎ ((u : List ℕ) × (v ≡ 48 ∷ c ∷ u) × AreDigits (is_in s) u))
+    → ((w : List ℕ) → value_of (48 ∷ c ∷ w) ≡ number_from (base_of s) 0 w)
     → float_len (48 ∷ c ∷ x) ≡ 0
     → is_in s (slice_index x 0) ≡ true
     → Numeral past (48 ∷ c ∷ x) (based s (48 ∷ c ∷ x))
@@ -231,7 +231,7 @@ based-numeral past c s x make only value none first =
         own = number-own 48 (c ∷ x) refl (length w);
       };
       len = n;
-      value = λ _. ap (λ k. number_from s 0 (drop 2 (take k (48 ∷ c ∷ x)))) n ∙ ap (number_from s 0) (ap (λ z. take (length m.digits) z) (sym m.whole) ∙ take-front m.digits m.rest) ∙ sym (value m.digits);
+      value = λ _. ap (λ k. number_from (base_of s) 0 (drop 2 (take k (48 ∷ c ∷ x)))) n ∙ ap (number_from (base_of s) 0) (ap (λ z. take (length m.digits) z) (sym m.whole) ∙ take-front m.digits m.rest) ∙ sym (value m.digits);
     }
   where
     by : (digits rest : List ℕ) → (48 ∷ c ∷ digits) ++ rest ≡ 48 ∷ c ∷ x → digits_len s x ≡ length digits → (t : Shape) (v os more : List ℕ) → v ++ more ≡ 48 ∷ c ∷ x → NumberLike t v os more → (length v < length (48 ∷ c ∷ digits)) ⊎ IsSame shape.Whole (48 ∷ c ∷ digits) (48 ∷ c ∷ digits) t v os
@@ -242,7 +242,7 @@ based-numeral past c s x make only value none first =
         alike (inl l) = inl l
         alike (inr l) = let same = front-same v more (48 ∷ c ∷ digits) rest (e ∙ sym whole) l in inr (refl, same, same)
 
-        found : (length v ≡ 1) ⊎ ((u : List ℕ) × (v ≡ 48 ∷ c ∷ u) × AreDigits s u) → (length v < length (48 ∷ c ∷ digits)) ⊎ IsSame shape.Whole (48 ∷ c ∷ digits) (48 ∷ c ∷ digits) shape.Whole v v
+        found : (length v ≡ 1) ⊎ ((u : List ℕ) × (v ≡ 48 ∷ c ∷ u) × AreDigits (is_in s) u) → (length v < length (48 ∷ c ∷ digits)) ⊎ IsSame shape.Whole (48 ∷ c ∷ digits) (48 ∷ c ∷ digits) shape.Whole v v
         found (inl one) = inl (omega arith)
         found (inr p) =
             let most = digits-longest s p.0 more p.2 in
@@ -258,7 +258,7 @@ base-head : {X : Type 0} (b c : ℕ) (y z : List ℕ) → (b == c) ≡ false →
 base-head b c y z other e = absurd (eq-not b c other (head-same b c y z (tail-same 48 48 (b ∷ y) (c ∷ z) e)))
 
 abbrev IsBased : ℕ → Set → List ℕ → Type 0
-IsBased c s v = (length v ≡ 1) ⊎ ((u : List ℕ) × (v ≡ 48 ∷ c ∷ u) × AreDigits s u)
+IsBased c s v = (length v ≡ 1) ⊎ ((u : List ℕ) × (v ≡ 48 ∷ c ∷ u) × AreDigits (is_in s) u)
 
 only-hexadecimal : (x v more : List ℕ) → v ++ more ≡ 48 ∷ 120 ∷ x → IsWhole v → IsBased 120 set.Hexadecimal v
 only-hexadecimal x _ more e Zero = inl refl
@@ -289,7 +289,7 @@ pub record Unbased (y : List ℕ) : Type 0 where
   pub no_binary : (slice_index y 1 == 98 && is_in set.Binary (slice_index y 2)) ≡ false
   pub no_octal : (slice_index y 1 == 111 && is_in set.Octal (slice_index y 2)) ≡ false
 
-not-based : {X : Type 0} (c : ℕ) (s : Set) (y v more : List ℕ) → (slice_index y 1 == c && is_in s (slice_index y 2)) ≡ false → 48 ∷ c ∷ (v ++ more) ≡ y → AreDigits s v → X
+not-based : {X : Type 0} (c : ℕ) (s : Set) (y v more : List ℕ) → (slice_index y 1 == c && is_in s (slice_index y 2)) ≡ false → 48 ∷ c ∷ (v ++ more) ≡ y → AreDigits (is_in s) v → X
 not-based c s y v more none e h =
     no-both (slice_index y 1 == c && is_in s (slice_index y 2))
     (both-and (slice_index y 1 == c) (is_in s (slice_index y 2)) (is-eq (slice_index y 1) c (ap (λ z. slice_index z 1) (sym e))) (ap (λ z. is_in s (slice_index z 2)) (sym e) ∙ ap (is_in s) (second v) ∙ digits-first s v more h))
@@ -324,31 +324,31 @@ zero-numeral past u none free =
       value = λ _. refl;
     }
 
-is-whole : (w rest : List ℕ) → AreDigits set.Decimal w → (slice_index (w ++ rest) 0 == 48) ≡ false → IsWhole w
-is-whole _ rest (One _ d h) free = Decimal d [] (eq-not d 48 free) (One set.Decimal d h)
-is-whole _ rest (More _ d w h more) free = Decimal d w (eq-not d 48 free) (More set.Decimal d w h more)
-is-whole _ rest (Parted _ d w h more) free = Decimal d (95 ∷ w) (eq-not d 48 free) (Parted set.Decimal d w h more)
+is-whole : (w rest : List ℕ) → AreDigits (is_in set.Decimal) w → (slice_index (w ++ rest) 0 == 48) ≡ false → IsWhole w
+is-whole _ rest (One d h) free = Decimal d [] (eq-not d 48 free) (One d h)
+is-whole _ rest (More d w h more) free = Decimal d w (eq-not d 48 free) (More d w h more)
+is-whole _ rest (Parted d w h more) free = Decimal d (95 ∷ w) (eq-not d 48 free) (Parted d w h more)
 
 digit-low : (c k : ℕ) → is_in set.Decimal c ≡ true → 58 ≤ k → (c == k) ≡ false
 digit-low c k h high = grind (arith, nat_tests, common_steps)
 
-value-plain : (w : List ℕ) → (slice_index w 1 == 120) ≡ false → (slice_index w 1 == 98) ≡ false → (slice_index w 1 == 111) ≡ false → value_of w ≡ number_from set.Decimal 0 w
+value-plain : (w : List ℕ) → (slice_index w 1 == 120) ≡ false → (slice_index w 1 == 98) ≡ false → (slice_index w 1 == 111) ≡ false → value_of w ≡ number_from (base_of set.Decimal) 0 w
 value-plain w e f g =
-    if-false (slice_index w 1 == 120) (number_from set.Hexadecimal 0 (drop 2 w)) _ e
-    ∙ if-false (slice_index w 1 == 98) (number_from set.Binary 0 (drop 2 w)) _ f ∙ if-false (slice_index w 1 == 111) (number_from set.Octal 0 (drop 2 w)) _ g
+    if-false (slice_index w 1 == 120) (number_from (base_of set.Hexadecimal) 0 (drop 2 w)) _ e
+    ∙ if-false (slice_index w 1 == 98) (number_from (base_of set.Binary) 0 (drop 2 w)) _ f ∙ if-false (slice_index w 1 == 111) (number_from (base_of set.Octal) 0 (drop 2 w)) _ g
 
-head-digit : (w : List ℕ) → AreDigits set.Decimal w → is_in set.Decimal (slice_index w 0) ≡ true
-head-digit _ (One _ d h) = h
-head-digit _ (More _ d w h more) = h
-head-digit _ (Parted _ d w h more) = h
+head-digit : (w : List ℕ) → AreDigits (is_in set.Decimal) w → is_in set.Decimal (slice_index w 0) ≡ true
+head-digit _ (One d h) = h
+head-digit _ (More d w h more) = h
+head-digit _ (Parted d w h more) = h
 
-value-decimal : (w : List ℕ) → AreDigits set.Decimal w → value_of w ≡ number_from set.Decimal 0 w
-value-decimal _ (One _ d h) = refl
-value-decimal _ (More _ d w h more) =
+value-decimal : (w : List ℕ) → AreDigits (is_in set.Decimal) w → value_of w ≡ number_from (base_of set.Decimal) 0 w
+value-decimal _ (One d h) = refl
+value-decimal _ (More d w h more) =
     let k = tail-at (d ∷ w) in
     let digit = head-digit w more in
     value-plain (d ∷ w) (ap (λ c. c == 120) (sym k) ∙ digit-low (slice_index w 0) 120 digit (omega arith)) (ap (λ c. c == 98) (sym k) ∙ digit-low (slice_index w 0) 98 digit (omega arith)) (ap (λ c. c == 111) (sym k) ∙ digit-low (slice_index w 0) 111 digit (omega arith))
-value-decimal _ (Parted _ d w h more) = value-plain (d ∷ 95 ∷ w) refl refl refl
+value-decimal _ (Parted d w h more) = value-plain (d ∷ 95 ∷ w) refl refl refl
 
 plain-others : (y w rest : List ℕ) → float_len y ≡ 0 → (slice_index y 0 == 48) ≡ false → w ++ rest ≡ y → digits_len set.Decimal y ≡ length w → (t : Shape) (v os more : List ℕ) → v ++ more ≡ y → NumberLike t v os more → (length v < length w) ⊎ IsSame shape.Whole w w t v os
 plain-others y w rest none free whole len _ _ _ more e (NumberLike.Float v _ h) = no-float y v more none e h
@@ -383,7 +383,7 @@ plain-numeral past d u h none free =
         own = number-own d u h (length m.digits);
       };
       len = n;
-      value = λ _. ap (λ k. number_from set.Decimal 0 (take k (d ∷ u))) n ∙ ap (number_from set.Decimal 0) (ap (λ z. take (length m.digits) z) (sym m.whole) ∙ take-front m.digits m.rest) ∙ sym (value-decimal m.digits m.are);
+      value = λ _. ap (λ k. number_from (base_of set.Decimal) 0 (take k (d ∷ u))) n ∙ ap (number_from (base_of set.Decimal) 0) (ap (λ z. take (length m.digits) z) (sym m.whole) ∙ take-front m.digits m.rest) ∙ sym (value-decimal m.digits m.are);
     }
 
 decimal-numeral : (past : List Shape) (d : ℕ) (u : List ℕ) → is_in set.Decimal d ≡ true → ((d == 48) ≡ true → Unbased (d ∷ u)) → Numeral past (d ∷ u) (decimal (d ∷ u))
@@ -419,9 +419,9 @@ numeral-of past d u h =
     (λ o. decimal-numeral past d u h (λ _. record { no_hexadecimal = t; no_binary = k; no_octal = o })))))
   where
     base : (d : ℕ) → d ≡ 48 → (c : ℕ) (s : Set) → (slice_index (d ∷ u) 1 == c && is_in s (slice_index (d ∷ u) 2)) ≡ true → (c == 0) ≡ false
-        → ((w : List ℕ) → AreDigits s w → IsWhole (48 ∷ c ∷ w))
+        → ((w : List ℕ) → AreDigits (is_in s) w → IsWhole (48 ∷ c ∷ w))
         → ((x v more : List ℕ) → v ++ more ≡ 48 ∷ c ∷ x → IsWhole v → IsBased c s v)
-        → ((w : List ℕ) → value_of (48 ∷ c ∷ w) ≡ number_from s 0 w)
+        → ((w : List ℕ) → value_of (48 ∷ c ∷ w) ≡ number_from (base_of s) 0 w)
         → ((x : List ℕ) → float_len (48 ∷ c ∷ x) ≡ 0)
         → Numeral past (d ∷ u) (based s (d ∷ u))
     base d is c s t some make only value none =

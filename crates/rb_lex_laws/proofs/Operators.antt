@@ -4,7 +4,7 @@ use Rattle.std.specs.Prelude.{slice_index}
 use Rattle.rb_tree.specs.declared.token.Shape.{Shape}
 use Rattle.rb_lex.specs.Operators.{operator, method_name}
 use Rattle.rb_lex.specs.declared.operator.Sign.TheVariants.{Operator, Foreign}
-use Rattle.rb_lex_laws.specs.Spellings.{OPERATORS, METHOD_OPERATORS, FOREIGN_OPERATORS}
+use Rattle.rb_rules.specs.Spellings.{OPERATORS, METHOD_OPERATORS, FOREIGN_OPERATORS}
 use Rattle.rb_lex_laws.specs.Operators.{OperatorsAreFound, MethodOperatorsAreFound, ForeignOperatorsAreFound}
 use Rattle.rb_lex_laws.proofs.Rows.{EachRow, at-row}
 

@@ -8,10 +8,10 @@ use Rattle.rb_tree.specs.declared.token.Shape.TheVariants as shape
 use Rattle.rb_lex.specs.Cuts.{is_operand_end, names_method, is_behind_dot, is_opener as opens, is_name, is_constant, behind_self, behind_dot, is_closing}
 use Rattle.rb_lex.specs.declared.cut.Before.{Before}
 use Rattle.rb_lex.specs.declared.cut.Before.TheVariants as before
-use Rattle.rb_lex_laws.specs.Spellings.{Holds, OPERATORS, METHOD_OPERATORS}
-use Rattle.rb_lex_laws.specs.Before.{IsBehind, IsOperandEnd, IsBehindName, IsBehindConstant, IsBehindDot, NamesMethod, is_opener, has_bars, Keeps}
-use Rattle.rb_lex_laws.specs.Before.NamesMethod.{Def, DefSelf}
-use Rattle.rb_lex_laws.specs.Before.Keeps.{Other, Closing, Named, Bars}
+use Rattle.rb_rules.specs.Spellings.{Holds, OPERATORS, METHOD_OPERATORS}
+use Rattle.rb_rules.specs.Before.{IsBehind, IsOperandEnd, IsBehindName, IsBehindConstant, IsBehindDot, NamesMethod, is_opener, has_bars, Keeps}
+use Rattle.rb_rules.specs.Before.NamesMethod.{Def, DefSelf}
+use Rattle.rb_rules.specs.Before.Keeps.{Other, Closing, Named, Bars}
 use Rattle.rb_lex_laws.proofs.Lists.{or-either, left-or, right-or, and-both, no-both, false-of}
 use Rattle.rb_lex_laws.proofs.Rows.{EachRow, at-row}
 

@@ -12,7 +12,7 @@ use Rattle.rb_lex.specs.declared.cut.Before.TheVariants as before
 use Rattle.rb_lex.specs.declared.cut.Look.{Look}
 use Rattle.rb_lex.specs.declared.cut.Cut.{Cut}
 use Rattle.rb_lex.specs.declared.cut.Cut.TheVariants as cuts
-use Rattle.rb_lex_laws.specs.Lexes.{IsForeign}
+use Rattle.rb_rules.specs.Lexes.{IsForeign}
 use Rattle.rb_lex_laws.proofs.Lists.{split, if-true, if-false, and-both, or-either, not-false, no-both, eq-is}
 use Rattle.rb_lex_laws.proofs.Blanks.{blank_here, starts-parts, line-is}
 use Rattle.rb_lex_laws.proofs.Marks.{shown-number, shown-variable, shown-semicolon, shown-sign, shown-colon}

@@ -21,9 +21,9 @@ use Rattle.rb_lex.specs.declared.cut.Cut.{Cut}
 use Rattle.rb_lex.specs.declared.cut.Cut.TheVariants as cuts
 use Rattle.rb_lex.specs.declared.word.Word.{Word}
 use Rattle.rb_lex.specs.declared.word.Word.TheVariants as word
-use Rattle.rb_lex_laws.specs.Spellings.{Begins, Holds, IsNamed, IsIdentifier, IsConstant, OPERATORS, METHOD_OPERATORS, FOREIGN_WORDS, FOREIGN_OPERATORS}
-use Rattle.rb_lex_laws.specs.Before.{NamesMethod, IsOperandEnd, IsBehindConstant, IsBehindDot}
-use Rattle.rb_lex_laws.specs.Lexes.{Spells, IsLongest, IsSpaced, EndsLine, IsWholeName, IsForeign, IsWrong}
+use Rattle.rb_rules.specs.Spellings.{Begins, Holds, IsNamed, IsIdentifier, IsConstant, OPERATORS, METHOD_OPERATORS, FOREIGN_WORDS, FOREIGN_OPERATORS}
+use Rattle.rb_rules.specs.Before.{NamesMethod, IsOperandEnd, IsBehindConstant, IsBehindDot}
+use Rattle.rb_rules.specs.Lexes.{Spells, IsLongest, IsSpaced, EndsLine, IsWholeName, IsForeign, IsWrong}
 use Rattle.rb_lex_laws.proofs.Lists.{if-true, if-false, both-and, left-or, right-or, not-of, no-both, eq-is, not-eq, take-front, false-of, begins-is, is-begins, on-begins}
 use Rattle.rb_lex_laws.proofs.Best.{best-same}
 use Rattle.rb_lex_laws.proofs.Blanks.{blank_here, blank-of, is-line, not-spaced}

@@ -1,6 +1,6 @@
 -- What holds of each row of a list holds of each that it holds.
 use Rattle.std.proofs.Common.{List, [], ◌∷◌, inl, inr, sym, subst}
-use Rattle.rb_lex_laws.specs.Spellings.{Holds}
+use Rattle.rb_rules.specs.Spellings.{Holds}
 
 abbrev pub EachRow : {X : Type 0} → (X → Type 0) → List X → Type 0
 EachRow P [] = Unit {0}

@@ -6,8 +6,8 @@ use Rattle.rb_tree.specs.declared.token.Shape.{Shape}
 use Rattle.rb_tree.specs.declared.token.Shape.TheVariants as shape
 use Rattle.rb_lex.specs.Chars.{is_in, is_letter}
 use Rattle.rb_lex.specs.declared.chars.Set.TheVariants as set
-use Rattle.rb_lex_laws.specs.Spellings.{Begins, Holds, IsIdentifier, IsConstant}
-use Rattle.rb_lex_laws.specs.Lexes.{Spells, IsLongest, IsBlank, IsSpaced, EndsLine, IsWholeName, IsForeign, IsWrong}
+use Rattle.rb_rules.specs.Spellings.{Begins, Holds, IsIdentifier, IsConstant}
+use Rattle.rb_rules.specs.Lexes.{Spells, IsLongest, IsBlank, IsSpaced, EndsLine, IsWholeName, IsForeign, IsWrong}
 use Rattle.rb_lex_laws.proofs.Lists.{head-same}
 use Rattle.rb_lex_laws.proofs.Encoded.{enc, Thin, wide-encode, enc-cons, enc-front, enc-first, enc-wide, enc-parts, enc-none, enc-some, begins-enc, enc-begins, Alike, alike-enc, enc-alike, identifier-alike, identifier-thin, constant-thin, foreign-thin, spells-thin, spells-alike, longest-bytes, longest-chars}
 

@@ -6,8 +6,8 @@ use Rattle.rb_lex.specs.Chars.{is_in, run_len, begins_name, is_upper}
 use Rattle.rb_lex.specs.Words.{identifier_len, is_labelled}
 use Rattle.rb_lex.specs.declared.chars.Set.{Set}
 use Rattle.rb_lex.specs.declared.chars.Set.TheVariants as set
-use Rattle.rb_lex_laws.specs.Spellings.{Begins, IsNamed, IsIdentifier, IsConstant}
-use Rattle.rb_lex_laws.specs.Spellings.IsIdentifier.{Plain, Asking, Shouting}
+use Rattle.rb_rules.specs.Spellings.{Begins, IsNamed, IsIdentifier, IsConstant}
+use Rattle.rb_rules.specs.Spellings.IsIdentifier.{Plain, Asking, Shouting}
 use Rattle.rb_lex_laws.proofs.Lists.{if-true, if-false, and-both, both-and, or-either, not-true, no-both, not-begins, tail-at, eq-is}
 use Rattle.rb_lex_laws.proofs.Longest.{marked-len, named-all, upper-in, lower-in}
 

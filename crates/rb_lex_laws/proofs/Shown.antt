@@ -12,9 +12,9 @@ use Rattle.rb_lex.specs.declared.cut.Look.{Look}
 use Rattle.rb_lex.specs.declared.cut.Lexeme.{Lexeme}
 use Rattle.rb_lex.specs.declared.cut.Cut.{Cut}
 use Rattle.rb_lex.specs.declared.cut.Cut.TheVariants as cuts
-use Rattle.rb_lex_laws.specs.Spellings.{Holds, KEYWORDS, OPERATORS, METHOD_OPERATORS}
-use Rattle.rb_lex_laws.specs.Numbers.{value_of}
-use Rattle.rb_lex_laws.specs.Lexes.{Spells, IsForeign}
+use Rattle.rb_rules.specs.Spellings.{Holds, KEYWORDS, OPERATORS, METHOD_OPERATORS}
+use Rattle.rb_rules.specs.Numerals.{value_of}
+use Rattle.rb_rules.specs.Lexes.{Spells, IsForeign}
 use Rattle.rb_lex_laws.proofs.Lists.{no-both}
 use Rattle.rb_lex_laws.proofs.Past.{before_behind, before_of, keeps_behind, held, holds-held}
 use Rattle.rb_lex_laws.proofs.Best.{Best}
@@ -121,18 +121,18 @@ number-passes look s w rest j apart small =
 
 keyword-quiet : EachRow (λ (row : Shape × List ℕ). Quiet row.0) KEYWORDS
 unfolding same_shape
-keyword-quiet = (record { judged = refl; number = refl }, (record { judged = refl; number = refl }, (record { judged = refl; number = refl }, (record { judged = refl; number = refl }, (record { judged = refl; number = refl }, (record { judged = refl; number = refl }, (record { judged = refl; number = refl }, (record { judged = refl; number = refl }, (record { judged = refl; number = refl }, (record { judged = refl; number = refl }, (record { judged = refl; number = refl }, (record { judged = refl; number = refl }, (record { judged = refl; number = refl }, (record { judged = refl; number = refl }, (record { judged = refl; number = refl }, (record { judged = refl; number = refl }, (record { judged = refl; number = refl }, (record { judged = refl; number = refl }, (record { judged = refl; number = refl }, (record { judged = refl; number = refl }, (record { judged = refl; number = refl }, (record { judged = refl; number = refl }, (record { judged = refl; number = refl }, tt)))))))))))))))))))))))
+keyword-quiet = (record { judged = refl; number = refl }, (record { judged = refl; number = refl }, (record { judged = refl; number = refl }, (record { judged = refl; number = refl }, (record { judged = refl; number = refl }, (record { judged = refl; number = refl }, (record { judged = refl; number = refl }, (record { judged = refl; number = refl }, (record { judged = refl; number = refl }, (record { judged = refl; number = refl }, (record { judged = refl; number = refl }, (record { judged = refl; number = refl }, (record { judged = refl; number = refl }, (record { judged = refl; number = refl }, (record { judged = refl; number = refl }, (record { judged = refl; number = refl }, (record { judged = refl; number = refl }, (record { judged = refl; number = refl }, (record { judged = refl; number = refl }, (record { judged = refl; number = refl }, (record { judged = refl; number = refl }, (record { judged = refl; number = refl }, (record { judged = refl; number = refl }, (record { judged = refl; number = refl }, (record { judged = refl; number = refl }, (record { judged = refl; number = refl }, tt))))))))))))))))))))))))))
 
 pub keywords-quiet : (s : Shape) (w : List ℕ) → Holds (s, w) KEYWORDS → Quiet s
 keywords-quiet s w h = at-row (λ (row : Shape × List ℕ). Quiet row.0) (s, w) KEYWORDS keyword-quiet h
 
 keyword-before : EachRow (λ (row : Shape × List ℕ). (b : Before) → behind_keyword b row.0 ≡ before_behind b row.0) KEYWORDS
 unfolding same_shape
-keyword-before = ((λ b. refl), ((λ b. refl), ((λ b. refl), ((λ b. refl), ((λ b. refl), ((λ b. refl), ((λ b. refl), ((λ b. refl), ((λ b. refl), ((λ b. refl), ((λ b. refl), ((λ b. refl), ((λ b. refl), ((λ b. refl), ((λ b. refl), ((λ b. refl), ((λ b. refl), ((λ b. refl), ((λ b. refl), ((λ b. refl), ((λ b. refl), ((λ b. refl), ((λ b. refl), tt)))))))))))))))))))))))
+keyword-before = ((λ b. refl), ((λ b. refl), ((λ b. refl), ((λ b. refl), ((λ b. refl), ((λ b. refl), ((λ b. refl), ((λ b. refl), ((λ b. refl), ((λ b. refl), ((λ b. refl), ((λ b. refl), ((λ b. refl), ((λ b. refl), ((λ b. refl), ((λ b. refl), ((λ b. refl), ((λ b. refl), ((λ b. refl), ((λ b. refl), ((λ b. refl), ((λ b. refl), ((λ b. refl), ((λ b. refl), ((λ b. refl), ((λ b. refl), tt))))))))))))))))))))))))))
 
 keyword-keeps : EachRow (λ (row : Shape × List ℕ). (names bars : Bool) → true ≡ keeps_behind names bars row.0) KEYWORDS
 unfolding same_shape
-keyword-keeps = ((λ names bars. refl), ((λ names bars. refl), ((λ names bars. refl), ((λ names bars. refl), ((λ names bars. refl), ((λ names bars. refl), ((λ names bars. refl), ((λ names bars. refl), ((λ names bars. refl), ((λ names bars. refl), ((λ names bars. refl), ((λ names bars. refl), ((λ names bars. refl), ((λ names bars. refl), ((λ names bars. refl), ((λ names bars. refl), ((λ names bars. refl), ((λ names bars. refl), ((λ names bars. refl), ((λ names bars. refl), ((λ names bars. refl), ((λ names bars. refl), ((λ names bars. refl), tt)))))))))))))))))))))))
+keyword-keeps = ((λ names bars. refl), ((λ names bars. refl), ((λ names bars. refl), ((λ names bars. refl), ((λ names bars. refl), ((λ names bars. refl), ((λ names bars. refl), ((λ names bars. refl), ((λ names bars. refl), ((λ names bars. refl), ((λ names bars. refl), ((λ names bars. refl), ((λ names bars. refl), ((λ names bars. refl), ((λ names bars. refl), ((λ names bars. refl), ((λ names bars. refl), ((λ names bars. refl), ((λ names bars. refl), ((λ names bars. refl), ((λ names bars. refl), ((λ names bars. refl), ((λ names bars. refl), ((λ names bars. refl), ((λ names bars. refl), ((λ names bars. refl), tt))))))))))))))))))))))))))
 
 pub keyword-says : (past : List Shape) (s : Shape) (w : List ℕ) (n : ℕ) → Holds (s, w) KEYWORDS → Says past s (record { shape = s; len = n; before = behind_keyword (before_of past) s; keeps = true })
 keyword-says past s w n h =
@@ -178,7 +178,7 @@ IsMute row = (v : List ℕ) → kind_of row.0 v ≡ kind_of row.0 []
 
 keyword-mute : EachRow IsMute KEYWORDS
 unfolding kind_of plain_kind
-keyword-mute = ((λ v. refl), ((λ v. refl), ((λ v. refl), ((λ v. refl), ((λ v. refl), ((λ v. refl), ((λ v. refl), ((λ v. refl), ((λ v. refl), ((λ v. refl), ((λ v. refl), ((λ v. refl), ((λ v. refl), ((λ v. refl), ((λ v. refl), ((λ v. refl), ((λ v. refl), ((λ v. refl), ((λ v. refl), ((λ v. refl), ((λ v. refl), ((λ v. refl), ((λ v. refl), tt)))))))))))))))))))))))
+keyword-mute = ((λ v. refl), ((λ v. refl), ((λ v. refl), ((λ v. refl), ((λ v. refl), ((λ v. refl), ((λ v. refl), ((λ v. refl), ((λ v. refl), ((λ v. refl), ((λ v. refl), ((λ v. refl), ((λ v. refl), ((λ v. refl), ((λ v. refl), ((λ v. refl), ((λ v. refl), ((λ v. refl), ((λ v. refl), ((λ v. refl), ((λ v. refl), ((λ v. refl), ((λ v. refl), ((λ v. refl), ((λ v. refl), ((λ v. refl), tt))))))))))))))))))))))))))
 
 operator-mute : EachRow IsMute OPERATORS
 unfolding kind_of plain_kind

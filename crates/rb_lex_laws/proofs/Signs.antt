@@ -8,7 +8,7 @@ use Rattle.rb_tree.specs.declared.token.Shape.TheVariants as shape
 use Rattle.rb_lex.specs.Operators.{found, or_assign, minus, star, equals, not_sign, less, greater, ampersand, pipe, dot, colon, single, compound, operator, method_name}
 use Rattle.rb_lex.specs.declared.operator.Sign.{Sign}
 use Rattle.rb_lex.specs.declared.operator.Sign.TheVariants.{Operator, Foreign, Nothing}
-use Rattle.rb_lex_laws.specs.Spellings.{Holds, OPERATORS, METHOD_OPERATORS, FOREIGN_OPERATORS}
+use Rattle.rb_rules.specs.Spellings.{Holds, OPERATORS, METHOD_OPERATORS, FOREIGN_OPERATORS}
 use Rattle.rb_lex_laws.proofs.Lists.{split, eq-is, and-both}
 use Rattle.rb_lex_laws.proofs.Past.{same-is}
 use Rattle.rb_lex_laws.proofs.Rows.{EachRow, at-row}

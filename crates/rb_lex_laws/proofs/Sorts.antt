@@ -6,13 +6,13 @@ use Rattle.rb_tree.specs.declared.token.Shape.{Shape}
 use Rattle.rb_tree.specs.declared.token.Shape.TheVariants as shape
 use Rattle.rb_lex.specs.Chars.{is_in, begins_name, is_upper}
 use Rattle.rb_lex.specs.declared.chars.Set.TheVariants as set
-use Rattle.rb_lex_laws.specs.Spellings.{Begins, Holds, IsNamed, IsIdentifier, IsConstant, IsSymbolName, AreDigits, IsWhole, IsFloat, KEYWORDS, OPERATORS, METHOD_OPERATORS}
-use Rattle.rb_lex_laws.specs.Spellings.IsIdentifier.{Plain, Asking, Shouting}
-use Rattle.rb_lex_laws.specs.Spellings.AreDigits.{One, More, Parted}
-use Rattle.rb_lex_laws.specs.Spellings.IsWhole.{Zero, Decimal, Hexadecimal, Binary, Octal}
-use Rattle.rb_lex_laws.specs.Spellings.IsFloat.{Fraction}
-use Rattle.rb_lex_laws.specs.Before.{IsBehindDot, NamesMethod}
-use Rattle.rb_lex_laws.specs.Lexes.{IsWord, Spells}
+use Rattle.rb_rules.specs.Spellings.{Begins, Holds, IsNamed, IsIdentifier, IsConstant, IsSymbolName, AreDigits, IsWhole, IsFloat, KEYWORDS, OPERATORS, METHOD_OPERATORS}
+use Rattle.rb_rules.specs.Spellings.IsIdentifier.{Plain, Asking, Shouting}
+use Rattle.rb_rules.specs.Spellings.AreDigits.{One, More, Parted}
+use Rattle.rb_rules.specs.Spellings.IsWhole.{Zero, Decimal, Hexadecimal, Binary, Octal}
+use Rattle.rb_rules.specs.Spellings.IsFloat.{Fraction}
+use Rattle.rb_rules.specs.Before.{IsBehindDot, NamesMethod}
+use Rattle.rb_rules.specs.Lexes.{IsWord, Spells}
 use Rattle.rb_lex_laws.proofs.Lists.{if-true, if-false, head-same}
 use Rattle.rb_lex_laws.proofs.Rows.{EachRow, at-row}
 
@@ -120,10 +120,10 @@ identifier-first _ _ (Shouting w rest h free) = more-first w (33 ∷ []) Kind.Na
 pub constant-first : (w : List ℕ) → IsConstant w → First w Kind.Constant
 constant-first w h = named-first is_upper Kind.Constant w kind-constant h
 
-digits-first : (w : List ℕ) → AreDigits set.Decimal w → First w Kind.Digit
-digits-first _ (One _ d h) = record { first = d; others = []; whole = refl; kind_is = kind-digit d h }
-digits-first _ (More _ d w h more) = record { first = d; others = w; whole = refl; kind_is = kind-digit d h }
-digits-first _ (Parted _ d w h more) = record { first = d; others = 95 ∷ w; whole = refl; kind_is = kind-digit d h }
+digits-first : (w : List ℕ) → AreDigits (is_in set.Decimal) w → First w Kind.Digit
+digits-first _ (One d h) = record { first = d; others = []; whole = refl; kind_is = kind-digit d h }
+digits-first _ (More d w h more) = record { first = d; others = w; whole = refl; kind_is = kind-digit d h }
+digits-first _ (Parted d w h more) = record { first = d; others = 95 ∷ w; whole = refl; kind_is = kind-digit d h }
 
 pub whole-first : (w : List ℕ) → IsWhole w → First w Kind.Digit
 whole-first _ Zero = record { first = 48; others = []; whole = refl; kind_is = refl }

@@ -6,12 +6,10 @@ use Rattle.std.proofs.lemmas.Str.{length-encode}
 use Rattle.std.proofs.lemmas.Bool.Decides.{nat_tests}
 use Rattle.srb_text.specs.Positions.{byte_len, fitting, IsStart}
 use Rattle.rb_tree.specs.declared.token.Token.{Token}
-use Rattle.rb_lex.specs.declared.state.Opened.{Opened}
 use Rattle.std.specs.Str.{encode_utf8_all}
 use Rattle.rb_tree.specs.declared.token.TokenKind.TheVariants as kind
 use Rattle.rb_tree.specs.declared.token.Shape.TheVariants as shape
-use Rattle.rb_lex.specs.Lexed.{kind_of}
-use Rattle.rb_lex_laws.specs.Lexes.{Place, Reaches, OutsideAt, BadCharAt, passed, spelt, pieced, begins_line, interpolated as interpolates}
+use Rattle.rb_rules.specs.Lexes.{Place, Reaches, OutsideAt, BadCharAt, passed, spelt, pieced, begins_line, interpolated as interpolates, OpenString, kind_of}
 use Rattle.rb_lex_laws.specs.Tokens.{StandInOrder, TokensStandAtCharacters, RefusedPlacesAreStarts}
 use Rattle.rb_lex_laws.proofs.Lists.{if-true, if-false}
 use Rattle.rb_lex_laws.proofs.Strings.{lead, enc-len}
@@ -74,7 +72,7 @@ record Stood (text : List ℕ) (p : Place) (z : List ℕ) : Type 0 where
   pub at_is : byte_len front ≡ p.at
   pub tokens : StandInOrder text 0 p.tokens
   pub last : end_of 0 p.tokens ≤ limit p
-  pub string : (o : Opened) → p.string ≡ Some o → IsStart text o.from × IsStart text o.opening × (o.from ≤ p.at)
+  pub string : (o : OpenString) → p.string ≡ Some o → IsStart text o.from × IsStart text o.opening × (o.from ≤ p.at)
   pub outer : AllStart text p.outer
 
 low-len : (c : ℕ) → c < 128 → byte_len (c ∷ []) ≡ 1
@@ -91,10 +89,10 @@ here text p z s = start-of text s.front z p.at s.whole s.at_is
 code-last : (text : List ℕ) (p : Place) (z : List ℕ) → Stood text p z → p.string ≡ None → end_of 0 p.tokens ≤ p.at
 code-last text p z s none = subst (λ x. end_of 0 p.tokens ≤ elim x [ None ↦ p.at | Some o ↦ o.from ]) none s.last
 
-string-last : (text : List ℕ) (p : Place) (z : List ℕ) (o : Opened) → Stood text p z → p.string ≡ Some o → end_of 0 p.tokens ≤ o.from
+string-last : (text : List ℕ) (p : Place) (z : List ℕ) (o : OpenString) → Stood text p z → p.string ≡ Some o → end_of 0 p.tokens ≤ o.from
 string-last text p z o s is = subst (λ x. end_of 0 p.tokens ≤ elim x [ None ↦ p.at | Some q ↦ q.from ]) is s.last
 
-no-string : {X : Type 0} (x : Option Opened) (o : Opened) → x ≡ None → x ≡ Some o → X
+no-string : {X : Type 0} (x : Option OpenString) (o : OpenString) → x ≡ None → x ≡ Some o → X
 no-string x o e f = absurd (cc)
 
 -- behind characters that are no token
@@ -132,7 +130,7 @@ spelt-on text p w rest q t s none at tokens plain outer start end =
     token-on text p q w rest t s at tokens plain outer (omega arith) (omega arith) (subst (IsStart text) (sym start) (here text p (w ++ rest) s)) (end ∙ sym at)
 
 -- at the `#{` of an interpolation
-interpolated-on : (text : List ℕ) (p : Place) (o : Opened) (w rest : List ℕ) → Stood text p (w ++ 35 ∷ 123 ∷ rest) → p.string ≡ Some o → Stood text (interpolates o w p) rest
+interpolated-on : (text : List ℕ) (p : Place) (o : OpenString) (w rest : List ℕ) → Stood text p (w ++ 35 ∷ 123 ∷ rest) → p.string ≡ Some o → Stood text (interpolates o w p) rest
 interpolated-on text p o w rest s is =
     let inside = s.string o is in
     let last = string-last text p (w ++ 35 ∷ 123 ∷ rest) o s is in
@@ -158,7 +156,7 @@ interpolated-on text p o w rest s is =
       outer = (inside.1, s.outer);
     }
 
-ended-on : (text : List ℕ) (p : Place) (o : Opened) (w rest : List ℕ) → o.quote < 128 → Stood text p (w ++ o.quote ∷ rest) → p.string ≡ Some o → Stood text (pieced o w 1 1 p) rest
+ended-on : (text : List ℕ) (p : Place) (o : OpenString) (w rest : List ℕ) → o.quote < 128 → Stood text p (w ++ o.quote ∷ rest) → p.string ≡ Some o → Stood text (pieced o w 1 1 p) rest
 ended-on text p o w rest low s is =
     let inside = s.string o is in
     let last = string-last text p (w ++ o.quote ∷ rest) o s is in
@@ -169,21 +167,21 @@ ended-on text p o w rest low s is =
     token-on text p (pieced o w 1 1 p) (w ++ o.quote ∷ []) rest (record { kind = kind.Text (encode_utf8_all w); span = record { start = o.from; end = p.at + byte_len w + 1 } })
     (subst (Stood text p) (sym all) s) (omega arith) refl refl refl last (omega arith) inside.0 refl
 
-opened_of : Opened → Option Opened → Opened
+opened_of : OpenString → Option OpenString → OpenString
 opened_of d (Some o) = o
 opened_of d None = d
 
-same-opened : (o q : Opened) → (let x : Option Opened = Some q in x ≡ Some o) → q ≡ o
+same-opened : (o q : OpenString) → (let x : Option OpenString = Some q in x ≡ Some o) → q ≡ o
 unfolding opened_of
 same-opened o q e = ap (opened_of q) e
 
-quote-low : (o q : Opened) → (let x : Option Opened = Some q in x ≡ Some o) → q.quote < 128 → o.quote < 128
-quote-low o q e h = subst (λ (x : Opened). x.quote < 128) (same-opened o q e) h
+quote-low : (o q : OpenString) → (let x : Option OpenString = Some q in x ≡ Some o) → q.quote < 128 → o.quote < 128
+quote-low o q e h = subst (λ (x : OpenString). x.quote < 128) (same-opened o q e) h
 
-opened-as : (text : List ℕ) (o q : Opened) (at : ℕ) → (let x : Option Opened = Some q in x ≡ Some o) → IsStart text q.from → IsStart text q.opening → q.from ≤ at → IsStart text o.from × IsStart text o.opening × (o.from ≤ at)
-opened-as text o q at e from opening h = subst (λ (x : Opened). IsStart text x.from × IsStart text x.opening × (x.from ≤ at)) (same-opened o q e) (from, opening, h)
+opened-as : (text : List ℕ) (o q : OpenString) (at : ℕ) → (let x : Option OpenString = Some q in x ≡ Some o) → IsStart text q.from → IsStart text q.opening → q.from ≤ at → IsStart text o.from × IsStart text o.opening × (o.from ≤ at)
+opened-as text o q at e from opening h = subst (λ (x : OpenString). IsStart text x.from × IsStart text x.opening × (x.from ≤ at)) (same-opened o q e) (from, opening, h)
 
-stood : (text : List ℕ) (p : Place) (z : List ℕ) → Reaches text p z → Stood text p z × ((o : Opened) → p.string ≡ Some o → o.quote < 128)
+stood : (text : List ℕ) (p : Place) (z : List ℕ) → Reaches text p z → Stood text p z × ((o : OpenString) → p.string ≡ Some o → o.quote < 128)
 stood text _ _ Reaches.First = (record { front = []; whole = refl; at_is = refl; tokens = tt; last = omega arith; string = λ o e. absurd (cc); outer = tt }, λ o e. absurd (cc))
 stood text _ _ (Reaches.PastBlank p w rest r none b) = let s = stood text p (w ++ rest) r in (on text p w rest (begins_line w) s.0 none, s.1)
 stood text _ _ (Reaches.PastComment p w rest r none c) = let s = stood text p (35 ∷ w ++ rest) r in (on text p (35 ∷ w) rest false s.0 none, s.1)

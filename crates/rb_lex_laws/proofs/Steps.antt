@@ -20,8 +20,8 @@ use Rattle.rb_lex.specs.declared.state.Opened.{Opened}
 use Rattle.rb_lex.specs.declared.state.State.{State}
 use Rattle.rb_lex.specs.declared.LexEnd.{LexEnd}
 use Rattle.rb_lex.specs.declared.LexEnd.TheVariants.{Bad, Outside}
-use Rattle.rb_lex_laws.specs.Spellings.{Begins, Holds}
-use Rattle.rb_lex_laws.specs.Lexes.{IsBlank, begins_line}
+use Rattle.rb_rules.specs.Spellings.{Begins, Holds}
+use Rattle.rb_rules.specs.Lexes.{IsBlank, begins_line}
 use Rattle.rb_lex_laws.proofs.Lists.{if-true, if-false, and-both, left-or, right-or, not-of, eq-is, is-eq, not-eq, begins-is}
 use Rattle.rb_lex_laws.proofs.Places.{rest_cut, cut-goes}
 use Rattle.rb_lex_laws.proofs.Shown.{quiet-inside, quiet-good}

@@ -12,8 +12,8 @@ use Rattle.rb_lex.specs.Pieces.{stop_at, piece_from, piece_of, is_touched}
 use Rattle.rb_lex.specs.declared.piece.Stop.{Stop}
 use Rattle.rb_lex.specs.declared.piece.Stop.TheVariants as stop
 use Rattle.rb_lex.specs.declared.piece.Piece.{Piece}
-use Rattle.rb_lex_laws.specs.Spellings.{Begins}
-use Rattle.rb_lex_laws.specs.Lexes.{IsContent, IsCutContent, IsTouched}
+use Rattle.rb_rules.specs.Spellings.{Begins}
+use Rattle.rb_rules.specs.Lexes.{IsContent, IsCutContent, IsTouched}
 use Rattle.rb_lex_laws.proofs.Lists.{if-true, and-both, both-and, not-of, not-true, no-both, eq-is, is-eq, eq-not, not-eq, tail-at, begins-is, begins-not, on-begins}
 use Rattle.rb_lex_laws.proofs.Encoded.{enc, wide-encode, thin-encode, enc-cons, enc-front, begins-enc, enc-begins}
 

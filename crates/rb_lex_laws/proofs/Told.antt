@@ -4,7 +4,7 @@ use Rattle.rb_tree.specs.declared.token.Token.{Token}
 use Rattle.rb_lex.specs.Lexed.{lexed_text}
 use Rattle.rb_lex.specs.declared.LexEnd.{LexEnd}
 use Rattle.rb_lex.specs.declared.LexEnd.TheVariants.{Bad, Outside, NoMemory}
-use Rattle.rb_lex_laws.specs.Lexes.{Lexes, OutsideAt, BadCharAt}
+use Rattle.rb_rules.specs.Lexes.{Lexes, OutsideAt, BadCharAt}
 use Rattle.rb_lex_laws.specs.Tokens.{TokensAreThoseOfTheText, OutsideIsThatOfTheText, BadIsThatOfTheText, EachTextIsTold, TokensAreOne, NoneIsRefused, PlaceIsOne}
 use Rattle.rb_lex_laws.proofs.Whole.{whole-text, outside-text, bad-text, IsSound, sound-text}
 

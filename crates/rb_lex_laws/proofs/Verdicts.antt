@@ -12,9 +12,9 @@ use Rattle.rb_lex.specs.declared.cut.Look.{Look}
 use Rattle.rb_lex.specs.declared.cut.Lexeme.{Lexeme}
 use Rattle.rb_lex.specs.declared.cut.Cut.{Cut}
 use Rattle.rb_lex.specs.declared.cut.Cut.TheVariants as cuts
-use Rattle.rb_lex_laws.specs.Spellings.{Holds, OPERATORS, METHOD_OPERATORS}
-use Rattle.rb_lex_laws.specs.Before.{IsBehindName}
-use Rattle.rb_lex_laws.specs.Lexes.{Spells, IsBlank, IsForeign, IsWrong}
+use Rattle.rb_rules.specs.Spellings.{Holds, OPERATORS, METHOD_OPERATORS}
+use Rattle.rb_rules.specs.Before.{IsBehindName}
+use Rattle.rb_rules.specs.Lexes.{Spells, IsBlank, IsForeign, IsWrong}
 use Rattle.rb_lex_laws.proofs.Lists.{and-both, both-and, or-either, left-or, right-or, not-true, not-of, no-both, eq-not}
 use Rattle.rb_lex_laws.proofs.Best.{Best, IsSame, best-same, longest-of}
 use Rattle.rb_lex_laws.proofs.Blanks.{blank_here, blank-here, spaced-not, not-spaced}

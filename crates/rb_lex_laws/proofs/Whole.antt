@@ -15,13 +15,12 @@ use Rattle.rb_lex.specs.Pieces.{is_touched}
 use Rattle.rb_lex.specs.declared.cut.Look.{Look}
 use Rattle.rb_lex.specs.declared.cut.Cut.{Cut}
 use Rattle.rb_lex.specs.declared.cut.Cut.TheVariants as cuts
-use Rattle.rb_lex.specs.declared.state.Opened.{Opened}
 use Rattle.rb_lex.specs.declared.state.State.{State}
 use Rattle.rb_lex.specs.declared.LexEnd.{LexEnd}
 use Rattle.rb_lex.specs.declared.LexEnd.TheVariants as ends
-use Rattle.rb_lex_laws.specs.Spellings.{Begins, Holds, OPERATORS}
-use Rattle.rb_lex_laws.specs.Before.{frames, Keeps}
-use Rattle.rb_lex_laws.specs.Lexes.{Spells, IsLongest, IsForeign, IsWrong, IsBlank, IsComment, Continues, IsTouched, IsReturn, Place, past_of, FIRST, passed, spelt, pieced, begins_line, interpolated as interpolates, Reaches, Lexes, OutsideAt, BadCharAt}
+use Rattle.rb_rules.specs.Spellings.{Begins, Holds, OPERATORS}
+use Rattle.rb_rules.specs.Before.{frames, Keeps}
+use Rattle.rb_rules.specs.Lexes.{Spells, IsLongest, IsForeign, IsWrong, IsBlank, IsComment, Continues, IsTouched, IsReturn, Place, past_of, FIRST, passed, spelt, pieced, begins_line, interpolated as interpolates, Reaches, Lexes, OutsideAt, BadCharAt, OpenString}
 use Rattle.rb_lex_laws.proofs.Lists.{and-both, both-and, no-both, eq-is, rest-same}
 use Rattle.rb_lex_laws.proofs.Blanks.{blank-some, goes_on, blank_here, Blank, blank-of, on-blank, on-comment, continues-on, continues-is, Rest, rest-of}
 use Rattle.rb_lex_laws.proofs.Encoded.{wide-encode, enc, enc-cons, enc-front, enc-append, enc-thin, begins-enc, longest-chars}
@@ -33,7 +32,7 @@ use Rattle.rb_lex_laws.proofs.Rules.{blank-thin, blank-bytes, foreign-bytes, wro
 use Rattle.rb_lex_laws.proofs.Steps.{blank-step, comment-step, line-step, quote-step, brace-cut}
 use Rattle.rb_lex_laws.proofs.Strings.{IsQuote, enc-len, Part, part-of, touched-bytes, bytes-touched}
 use Rattle.rb_lex_laws.proofs.Verdicts.{Seen, seen}
-use Rattle.rb_lex_laws.proofs.Beside.{Popped, popped, Matches, first-matches, blank-matches, dropped-matches, kept-matches, opened-matches, inside-open, open-inside}
+use Rattle.rb_lex_laws.proofs.Beside.{Popped, popped, Matches, first-matches, blank-matches, dropped-matches, kept-matches, opened-matches, inside-open, open-inside, held_string}
 use Rattle.rb_lex_laws.proofs.Landing.{Landed, returned, spells-single}
 use Rattle.rb_lex_laws.proofs.Next.{Next, next-of, other-bytes}
 use Rattle.rb_lex_laws.proofs.Inside as inside
@@ -46,7 +45,7 @@ thin-len w rest b = ap length (sym (enc-thin w (blank-thin w rest b))) ∙ enc-l
 blank-lands : (p : Place) (s : State) (w rest : List ℕ) → Matches p s (w ++ rest) → p.string ≡ None → IsBlank w rest → Landed p p.at s (enc (w ++ rest)) (passed w (begins_line w) p) rest
 blank-lands p s w rest m none b = (
   blanked (begins_line w) s,
-  ap (lexed_from 0 p.at s) (enc-front w rest (blank-thin w rest b)) ∙ blank-step w (enc rest) p.at s (m.string_is ∙ none) (blank-bytes w rest b)
+  ap (lexed_from 0 p.at s) (enc-front w rest (blank-thin w rest b)) ∙ blank-step w (enc rest) p.at s (m.string_is ∙ ap held_string none) (blank-bytes w rest b)
       ∙ ap (λ n. lexed_from 0 (p.at + n) (blanked (begins_line w) s) (enc rest)) (thin-len w rest b),
   blank-matches p s (w ++ rest) w rest (begins_line w) m none (on-blank w rest b),
 )
@@ -92,7 +91,7 @@ comment-lands p s w rest m none c =
     let whole : enc (35 ∷ (w ++ rest)) ≡ 35 ∷ (enc w ++ enc rest) = enc-cons 35 (w ++ rest) (omega arith) ∙ ap (λ y. 35 ∷ y) (enc-append w rest) in
     let size : suc (length (enc w)) ≡ byte_len (35 ∷ w) = ap length (sym (enc-cons 35 w (omega arith))) ∙ enc-len (35 ∷ w) in (
       blanked false s,
-      ap (lexed_from 0 p.at s) whole ∙ comment-step (enc w) (enc rest) p.at s (m.string_is ∙ none) (no-line w c.plain) (ended-bytes rest c.ended)
+      ap (lexed_from 0 p.at s) whole ∙ comment-step (enc w) (enc rest) p.at s (m.string_is ∙ ap held_string none) (no-line w c.plain) (ended-bytes rest c.ended)
           ∙ ap (λ n. lexed_from 0 (p.at + n) (blanked false s) (enc rest)) size,
       blank-matches p s (35 ∷ (w ++ rest)) (35 ∷ w) rest false m none (on-comment w rest c),
     )
@@ -189,15 +188,15 @@ followed text _ _ (Reaches.PastBlank p w rest r none b) = let f = followed text 
 followed text _ _ (Reaches.PastComment p w rest r none c) = let f = followed text p (35 ∷ w ++ rest) r in goes-on text p (passed (35 ∷ w) false p) (35 ∷ w ++ rest) rest f (comment-lands p f.state w rest f.matches none c)
 followed text _ _ (Reaches.Kept p rest r none keeps free) =
     let f = followed text p (10 ∷ rest) r in
-    record { state = behind_line p.at f.state; run = f.run ∙ line-run p f.state rest (f.matches.string_is ∙ none); matches = kept-matches p f.state rest f.matches none keeps free }
+    record { state = behind_line p.at f.state; run = f.run ∙ line-run p f.state rest (f.matches.string_is ∙ ap held_string none); matches = kept-matches p f.state rest f.matches none keeps free }
 followed text _ _ (Reaches.Dropped p rest r none why) =
     let f = followed text p (10 ∷ rest) r in
-    record { state = behind_line p.at f.state; run = f.run ∙ line-run p f.state rest (f.matches.string_is ∙ none); matches = dropped-matches p f.state rest f.matches none why }
+    record { state = behind_line p.at f.state; run = f.run ∙ line-run p f.state rest (f.matches.string_is ∙ ap held_string none); matches = dropped-matches p f.state rest f.matches none why }
 followed text _ _ (Reaches.Spelt p t w words rest r none l nf nw stays) = spelt-followed text p t w words rest (followed text p (w ++ rest) r) none l nf nw stays
 followed text _ _ (Reaches.Returns p outer opening rest r none ret outer_is) = returned-followed text p opening outer rest (followed text p (125 ∷ rest) r) none ret outer_is
 followed text _ _ (Reaches.Opens p quote rest r none q) =
     let f = followed text p (quote ∷ rest) r in
-    record { state = opened quote p.at f.state; run = f.run ∙ quote-run p f.state quote rest (f.matches.string_is ∙ none) q; matches = opened-matches p f.state quote rest f.matches none q }
+    record { state = opened quote p.at f.state; run = f.run ∙ quote-run p f.state quote rest (f.matches.string_is ∙ ap held_string none) q; matches = opened-matches p f.state quote rest f.matches none q }
 followed text _ _ (Reaches.Ends p o w rest r string content free) =
     let f = followed text p (w ++ o.quote ∷ rest) r in
     goes-on text p (pieced o w 1 1 p) (w ++ o.quote ∷ rest) rest f (inside.ends p f.state (w ++ o.quote ∷ rest) f.matches o string w rest refl content free)
@@ -274,7 +273,7 @@ module _ (text : List ℕ) (n : ℕ) (more : Sound text n) (p : Place) (s : Stat
   sound-line rest short r m none = by (goes_on false rest) refl (keeps_of (past_of p)) refl
     where
       code : s.string ≡ None
-      code = m.string_is ∙ none
+      code = m.string_is ∙ ap held_string none
 
       drop_it : ((Keeps (past_of p) → ⊥) ⊎ Continues rest) → IsSound text (lexed_from 0 p.at s (enc (10 ∷ rest)))
       drop_it why = subst (IsSound text) (sym (line-run p s rest code)) (more (passed (10 ∷ []) true p) (behind_line p.at s) rest short (Reaches.Dropped p rest r none why) (dropped-matches p s rest m none why))
@@ -290,7 +289,7 @@ module _ (text : List ℕ) (n : ℕ) (more : Sound text n) (p : Place) (s : Stat
 
   sound-quote : (quote : ℕ) (rest : List ℕ) → length rest < n → IsQuote quote → Reaches text p (quote ∷ rest) → Matches p s (quote ∷ rest) → p.string ≡ None → IsSound text (lexed_from 0 p.at s (enc (quote ∷ rest)))
   sound-quote quote rest short q r m none =
-      subst (IsSound text) (sym (quote-run p s quote rest (m.string_is ∙ none) q))
+      subst (IsSound text) (sym (quote-run p s quote rest (m.string_is ∙ ap held_string none) q))
       (more (record p { at = p.at + 1; string = Some (record { quote = quote; opening = p.at; from = p.at }) }) (opened quote p.at s) rest short (Reaches.Opens p quote rest r none q) (opened-matches p s quote rest m none q))
 
   sound-other : (z : List ℕ) → length z < suc n → Reaches text p z → Matches p s z → p.string ≡ None → Other z → IsSound text (lexed_from 0 p.at s (enc z))
@@ -357,7 +356,7 @@ module _ (text : List ℕ) (n : ℕ) (more : Sound text n) (p : Place) (s : Stat
       by false e false f false g false i true j = sound-quote c u less (inr (eq-is c 39 j)) r m none
       by false e false f false g false i false j = sound-other (c ∷ u) short r m none (record { first = c; others = u; whole = refl; no_blank = e; no_line = f; no_comment = g; no_double = i; no_single = j })
 
-  sound-string : (o : Opened) (z : List ℕ) → length z < suc n → Reaches text p z → Matches p s z → p.string ≡ Some o → IsSound text (lexed_from 0 p.at s (enc z))
+  sound-string : (o : OpenString) (z : List ℕ) → length z < suc n → Reaches text p z → Matches p s z → p.string ≡ Some o → IsSound text (lexed_from 0 p.at s (enc z))
   sound-string o z short r m string = by (part-of o.quote z (m.quote_is o string))
     where
       by : Part o.quote z → IsSound text (lexed_from 0 p.at s (enc z))
@@ -381,7 +380,7 @@ module _ (text : List ℕ) (n : ℕ) (more : Sound text n) (p : Place) (s : Stat
   sound-step : (z : List ℕ) → length z < suc n → Reaches text p z → Matches p s z → IsSound text (lexed_from 0 p.at s (enc z))
   sound-step z short r m = by p.string refl
     where
-      by : (x : Option Opened) → p.string ≡ x → IsSound text (lexed_from 0 p.at s (enc z))
+      by : (x : Option OpenString) → p.string ≡ x → IsSound text (lexed_from 0 p.at s (enc z))
       by None e = sound-code z short r m e
       by (Some o) e = sound-string o z short r m e
 

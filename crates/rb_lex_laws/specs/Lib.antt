@@ -1,9 +1,6 @@
-pub mod Before
 pub mod Levels
-pub mod Lexes
 pub mod Longest
 pub mod Numbers
 pub mod Operators
-pub mod Spellings
 pub mod Tokens
 pub mod Words

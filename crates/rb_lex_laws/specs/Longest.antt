@@ -1,11 +1,11 @@
 -- What is computed of names and digits is as long as the longest spelling at a place.
 use Rattle.std.specs.Prelude.{ℕ, ◌≤◌, List, ◌++◌, length}
-use Rattle.rb_lex.specs.Chars.{run_len}
+use Rattle.rb_lex.specs.Chars.{is_in, run_len}
 use Rattle.rb_lex.specs.Words.{identifier_len}
 use Rattle.rb_lex.specs.Numbers.{digits_len}
 use Rattle.rb_lex.specs.declared.chars.Set.{Set}
 use Rattle.rb_lex.specs.declared.chars.Set.TheVariants as set
-use Rattle.rb_lex_laws.specs.Spellings.{IsIdentifier, IsConstant, AreDigits}
+use Rattle.rb_rules.specs.Spellings.{IsIdentifier, IsConstant, AreDigits}
 
 -- no identifier at a place is longer
 abbrev pub IdentifiersAreLongest : Type 0
@@ -17,4 +17,4 @@ ConstantsAreLongest = (w rest : List ℕ) → IsConstant w → length w ≤ run_
 
 -- no digits are
 abbrev pub DigitsAreLongest : Type 0
-DigitsAreLongest = (s : Set) (w rest : List ℕ) → AreDigits s w → length w ≤ digits_len s (w ++ rest)
+DigitsAreLongest = (s : Set) (w rest : List ℕ) → AreDigits (is_in s) w → length w ≤ digits_len s (w ++ rest)

@@ -3,7 +3,7 @@ use Rattle.std.specs.Prelude.{◌≡◌, ℕ, List, length, slice_index}
 use Rattle.rb_tree.specs.declared.token.Shape.{Shape}
 use Rattle.rb_lex.specs.Operators.{operator, method_name}
 use Rattle.rb_lex.specs.declared.operator.Sign.TheVariants.{Operator, Foreign}
-use Rattle.rb_lex_laws.specs.Spellings.{Holds, OPERATORS, METHOD_OPERATORS, FOREIGN_OPERATORS}
+use Rattle.rb_rules.specs.Spellings.{Holds, OPERATORS, METHOD_OPERATORS, FOREIGN_OPERATORS}
 
 -- each operator is found where its spelling stands at the end of a text
 abbrev pub OperatorsAreFound : Type 0

@@ -4,7 +4,7 @@ use Rattle.srb_text.specs.Positions.{IsStart}
 use Rattle.rb_tree.specs.declared.token.Token.{Token}
 use Rattle.rb_lex.specs.Lexed.{lexed_text}
 use Rattle.rb_lex.specs.declared.LexEnd.TheVariants.{Bad, Outside}
-use Rattle.rb_lex_laws.specs.Lexes.{Lexes, OutsideAt, BadCharAt}
+use Rattle.rb_rules.specs.Lexes.{Lexes, OutsideAt, BadCharAt}
 
 -- a list of tokens is answered exactly where the text has it
 abbrev pub TokensAreThoseOfTheText : Type 0

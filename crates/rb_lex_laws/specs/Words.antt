@@ -3,7 +3,7 @@ use Rattle.std.specs.Prelude.{◌≡◌, ℕ, List}
 use Rattle.rb_tree.specs.declared.token.Shape.{Shape}
 use Rattle.rb_lex.specs.Words.{word_of}
 use Rattle.rb_lex.specs.declared.word.Word.TheVariants.{Keyword, Foreign}
-use Rattle.rb_lex_laws.specs.Spellings.{Holds, KEYWORDS, FOREIGN_WORDS}
+use Rattle.rb_rules.specs.Spellings.{Holds, KEYWORDS, FOREIGN_WORDS}
 
 -- each keyword is known, with its shape
 abbrev pub KeywordsAreKnown : Type 0

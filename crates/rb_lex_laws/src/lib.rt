@@ -1,7 +1,6 @@
-//! The tokens of a text in the words of the language's description, and laws on what `rb_lex` computes.
-//!
-//! `Lexes` says which tokens a text has, `OutsideAt` and `BadCharAt` where it is refused; the spellings of tokens and what
-//! the tokens before a place say about it are definitions of their own. Nothing of them says how tokens are found.
+//! Laws on what `rb_lex` computes: its answers are exactly those of the rules of `rb_rules`, in which `Lexes` says which tokens a
+//! text has, `OutsideAt` and `BadCharAt` where it is refused, and `Asks` which level it asks for. Nothing of those rules says
+//! how tokens are found.
 #![tactic(auto)]
 
 ghost use Rattle.rb_lex_laws.specs.Levels.{GivenLevelsAreFound, LevelIsThatOfTheText};
