@@ -8,8 +8,8 @@ use Rattle.rb_expr.specs.Grammar.{parsed}
 use Rattle.rb_rules.specs.Forms.{Site, Inside, is_open}
 use Rattle.rb_rules.specs.Grammar.{DerivesBody, DerivesStatement, DerivesSimple, DerivesValue, DerivesTerm, DerivesLevel, DerivesPrefixed}
 use Rattle.rb_grammar.specs.Laws.{FormsDerive, TermsDerive, StatementsDerive, BodiesDerive}
-use Rattle.rb_grammar.proofs.Steps.{Holds, refused, Within}
-use Rattle.rb_grammar.proofs.Sound.{Sound, Starts}
+use Rattle.rb_grammar.proofs.Steps.{Holds, refused, weaker, Within}
+use Rattle.rb_grammar.proofs.Sound.{Sound, Ready, Starts}
 use Rattle.rb_grammar.proofs.Operators.{prefixed-holds, negated-holds, operation-holds, tern-holds}
 use Rattle.rb_grammar.proofs.Statements.{value-holds, simple-holds, statement-holds, body-holds}
 
@@ -42,7 +42,7 @@ told {A = A} Q o a rest e h = got (subst (λ o. Holds o Q) e h)
     got h = h.told
 
 pub forms-derive : FormsDerive
-forms-derive depth form.Body free tokens rest t e = (told (λ t ys. DerivesBody Inside free t tokens ys × Within tokens ys) _ t rest e ((sound depth).body free tokens)).0
+forms-derive depth form.Body free tokens rest t e = (told (λ t ys. DerivesBody Inside free t tokens ys × Within tokens ys × Ready free t tokens ys) _ t rest e ((sound depth).body free tokens)).0
 forms-derive depth form.Simple free tokens rest t e = (told (λ t ys. DerivesSimple false free t tokens ys × Within tokens ys × Starts t tokens) _ t rest e ((sound depth).simple free tokens)).0
 forms-derive depth form.Value free tokens rest t e = (told (λ t ys. DerivesValue false free t tokens ys × Within tokens ys × Starts t tokens) _ t rest e ((sound depth).value free tokens)).0
 forms-derive depth form.Tern free tokens rest t e = (told (λ t ys. DerivesTerm free t tokens ys × Within tokens ys × Starts t tokens) _ t rest e ((sound depth).term free tokens)).0
@@ -61,7 +61,7 @@ a-statement-holds depth at tokens = statement-holds (parsed depth) (sound depth)
 
 pub a-body-holds : (depth : ℕ) (at : Site) (tokens : List Token) → Holds (longest_body depth (is_open at) tokens) (λ t ys. DerivesBody at true t tokens ys × Within tokens ys)
 unfolding longest_body
-a-body-holds depth at tokens = body-holds (parsed depth) (sound depth) depth true at tokens
+a-body-holds depth at tokens = weaker (body-holds (parsed depth) (sound depth) depth true at tokens) (λ t ys h. (h.0, h.1))
 
 pub terms-derive : TermsDerive
 terms-derive depth tokens rest t e = (told (λ t ys. DerivesTerm true t tokens ys × Within tokens ys × Starts t tokens) _ t rest e (term-holds depth tokens)).0

@@ -1,10 +1,11 @@
 -- Methods that are read derive.
-use Rattle.std.proofs.Common.{◌≡◌, ℕ, Bool, true, false, ◌==◌, if◌then◌else◌, List, [], ◌∷◌, ◌++◌, length, Option, Some, None, is_some, Ok, Err, inl, inr, refl, sym, ap, subst, codes, bytes_eq}
+use Rattle.std.proofs.Common.{◌≡◌, ℕ, zero, suc, Bool, true, false, ◌==◌, if◌then◌else◌, List, [], ◌∷◌, ◌++◌, length, Option, Some, None, is_some, Ok, Err, inl, inr, refl, sym, ap, subst, codes, bytes_eq}
 use Rattle.std.proofs.lemmas.Slice.Eq.{bytes_eq-Decides}
 use denote.Enum.Bare.{true_same}
 use Rattle.srb_terms.specs.declared.span.Span.{Span}
 use Rattle.rb_tree.specs.contracts.token.Shape.{the_type}
 use Rattle.rb_tree.specs.Tokens.{shape_of, same_shape}
+use Rattle.rb_tree.specs.declared.syntax.Guarded.{Guarded}
 use Rattle.rb_tree.specs.declared.syntax.PlacedName.{PlacedName}
 use Rattle.rb_tree.specs.declared.syntax.Tree.{Tree}
 use Rattle.rb_tree.specs.declared.syntax.Visibility.{Visibility}
@@ -13,22 +14,24 @@ use Rattle.rb_tree.specs.declared.token.TokenKind.{TokenKind}
 use Rattle.rb_tree.specs.declared.token.TokenKind.TheVariants as kind
 use Rattle.rb_tree.specs.declared.token.Shape.{Shape}
 use Rattle.rb_tree.specs.declared.token.Shape.TheVariants as shape
+use Rattle.rb_expr.specs.declared.form.Form.TheVariants as form
 use Rattle.rb_expr.specs.Grammar.{parsed}
 use Rattle.rb_expr.specs.Reading.{sees, skip_separators}
-use Rattle.rb_expr.specs.Rules.{body, longest_body}
+use Rattle.rb_expr.specs.Rules.{guarded}
 use Rattle.rb_expr.specs.Statements as statements
 use Rattle.rb_decl.specs.declared.method.Head.{Head}
 use Rattle.rb_decl.specs.Methods.{visibility_of, visibility, operator_text, operator_name, plain_name, method_name, own, method_head, tree_of, defined, method}
 use Rattle.rb_rules.specs.Tokens.{Is, IsIdentifier}
 use Rattle.rb_rules.specs.Spans.{across}
-use Rattle.rb_rules.specs.Forms.{Site, Inside, METHODS}
-use Rattle.rb_rules.specs.Grammar.{IsRow, VISIBILITIES, front_span, MethodName, Owner, DerivesBody, DerivesDeclaration, DerivesMethod}
+use Rattle.rb_rules.specs.Forms.{Site, METHODS}
+use Rattle.rb_rules.specs.Grammar.{IsRow, VISIBILITIES, front_span, MethodName, Owner, DerivesGuarded, DerivesDeclaration, DerivesMethod}
 use Rattle.rb_rules.specs.Grammar.MethodName.{Plain, Writer, Capital, Operator}
 use Rattle.rb_rules.specs.Grammar.Owner.{Other, Own}
 use Rattle.rb_rules.specs.Grammar.DerivesMethod.{Def}
 use Rattle.rb_rules.specs.Grammar.DerivesDeclaration.{Method, VisibleMethod}
 use Rattle.rb_grammar.proofs.Steps.{Holds, answered, refused, step, weaker, choosing, taking, taking-this, follow, testing, Within, within-self, within-token, within-more}
-use Rattle.rb_grammar.proofs.Forms.{a-body-holds}
+use Rattle.rb_grammar.proofs.Branches as branches
+use Rattle.rb_grammar.proofs.Forms.{sound}
 use Rattle.rb_grammar.proofs.Parameters.{Links, parameters-holds}
 
 -- ---- the name
@@ -105,21 +108,28 @@ own-holds (s ∷ ss) = testing
 
 -- ---- the whole
 
-abbrev ABody : List Token → Tree → List Token → Type 0
-ABody zs t ys = DerivesBody Inside true t zs ys × Within zs ys
+abbrev ABody : ℕ → List Token → Tree → List Token → Type 0
+ABody d zs t ys = branches.ABody (parsed d) (sound d) d true zs t ys
 
-body-holds : (d : ℕ) (xs : List Token) → Holds (body d xs) (ABody xs)
-unfolding body
-body-holds d xs = a-body-holds d Inside xs
+abbrev AGuarded : ℕ → List Token → Guarded Tree → List Token → Type 0
+AGuarded d zs g ys = branches.AGuarded (parsed d) (sound d) d true zs g ys
 
 -- one more separator before a body is passed over
-body-behind : (d : ℕ) (zs ys : List Token) → Links zs ys → Holds (body d ys) (ABody zs)
-unfolding body longest_body statements.body same_shape
-body-behind d zs ys (inl e) = subst (λ us. Holds (body d us) (ABody zs)) (sym e) (body-holds d zs)
-body-behind d zs ys (inr h) =
-    let separator : same_shape (shape_of h.0.kind) shape.Separator ≡ true = true_same the_type _ _ h.1 in
-    let skips : skip_separators (h.0 ∷ zs) ≡ skip_separators zs = ap (λ b. if b then skip_separators zs else h.0 ∷ zs) separator in
-    subst (λ us. Holds (body d us) (ABody zs)) (sym h.2) (subst (λ us. Holds (statements.statements (parsed d) d true false us) (ABody zs)) (sym skips) (body-holds d zs))
+separator-after : (d : ℕ) (s : Token) (zs : List Token) → Is shape.Separator s → Holds (parsed d form.Body true zs) (ABody d zs) → Holds (parsed d form.Body true (s ∷ zs)) (ABody d zs)
+unfolding parsed statements.body same_shape
+separator-after zero s zs is h = refused _ _
+separator-after (suc d) s zs is h =
+    let separator : same_shape (shape_of s.kind) shape.Separator ≡ true = true_same the_type _ _ is in
+    let skips : skip_separators (s ∷ zs) ≡ skip_separators zs = ap (λ b. if b then skip_separators zs else s ∷ zs) separator in
+    subst (λ us. Holds (statements.statements (parsed d) d true false us) (ABody (suc d) zs)) (sym skips) h
+
+body-behind : (d : ℕ) (zs ys : List Token) → Links zs ys → Holds (parsed d form.Body true ys) (ABody d zs)
+body-behind d zs ys (inl e) = subst (λ us. Holds (parsed d form.Body true us) (ABody d zs)) (sym e) ((sound d).body true zs)
+body-behind d zs ys (inr h) = subst (λ us. Holds (parsed d form.Body true us) (ABody d zs)) (sym h.2) (separator-after d h.0 zs h.1 ((sound d).body true zs))
+
+guarded-after : (d : ℕ) (zs ys : List Token) → Links zs ys → Holds (guarded d ys) (AGuarded d zs)
+unfolding guarded
+guarded-after d zs ys l = branches.guarded-after (parsed d) (sound d) d true zs ys (body-behind d zs ys l)
 
 within-links : (zs ys us : List Token) → Links zs ys → Within zs us → Within ys us
 within-links zs ys us (inl e) w = subst (λ qs. Within qs us) (sym e) w
@@ -127,22 +137,22 @@ within-links zs ys us (inr h) w = subst (λ qs. Within qs us) (sym h.2) (within-
 
 -- what stands before the body, so that with a body and its `end` it is a method
 abbrev AHead : Option Visibility → Option Token → Token → List Token → Head → List Token → Type 0
-AHead shown front k ks h ys = (zs : List Token) × Links zs ys × Within ks ys × ((b : Tree) (e : Token) (us : List Token) → DerivesBody Inside true b zs (e ∷ us) → Is shape.End e → DerivesMethod shown front (tree_of h b e.span.end) (k ∷ ks) us)
+AHead shown front k ks h ys = (zs : List Token) × Links zs ys × Within ks ys × ((g : Guarded Tree) (e : Token) (us : List Token) → DerivesGuarded true g zs (e ∷ us) → Is shape.End e → DerivesMethod shown front (tree_of h g e.span.end) (k ∷ ks) us)
 
 head-holds : (d : ℕ) (shown : Option Visibility) (front : Option Token) (k : Token) (ks : List Token) → Holds (method_head d shown (front_span k front).start (k ∷ ks)) (AHead shown front k ks)
 unfolding method_head
 head-holds d shown front k ks = taking-this shape.Def (AHead shown front k ks) _ k ks (λ is. step (own-holds ks) (λ o ps ho. step (name-holds ps) (λ n qs hn. step (parameters-holds d qs) (λ found ys hp.
     answered (AHead shown front k ks) (record { visibility = shown; start = (front_span k front).start; own = o; name = n; parameters = found }) ys
-    (hp.0, hp.4, within-more ho.1 (within-more hn.1 hp.5), λ b e us hb ends. Def _ _ _ _ _ _ _ _ _ _ _ _ _ _ is ho.0 hn.0 hp.1 hp.2 hp.3 hb ends)))))
+    (hp.0, hp.4, within-more ho.1 (within-more hn.1 hp.5), λ g e us hg ends. Def _ _ _ _ _ _ _ _ _ _ _ _ _ _ is ho.0 hn.0 hp.1 hp.2 hp.3 hg ends)))))
 
 abbrev AMethod : Option Visibility → Option Token → List Token → Tree → List Token → Type 0
 AMethod shown front xs t ys = DerivesMethod shown front t xs ys × Within xs ys
 
 defined-holds : (d : ℕ) (shown : Option Visibility) (front : Option Token) (k : Token) (ks : List Token) → Holds (defined d shown (front_span k front).start (k ∷ ks)) (AMethod shown front (k ∷ ks))
 unfolding defined
-defined-holds d shown front k ks = step (head-holds d shown front k ks) (λ h ps hh. step (body-behind d hh.0 ps hh.1) (λ b qs hb.
-    follow shape.End (λ us. ABody hh.0 b us) _ _ _ hb (λ e ys ends hb. answered (AMethod shown front (k ∷ ks)) (tree_of h b e.span.end) ys
-    (hh.3 b e ys hb.0 ends, within-token k (within-more hh.2 (within-more (within-links hh.0 ps (e ∷ ys) hh.1 hb.1) (within-token e (within-self ys))))))))
+defined-holds d shown front k ks = step (head-holds d shown front k ks) (λ h ps hh. step (guarded-after d hh.0 ps hh.1) (λ g qs hg.
+    follow shape.End (λ us. AGuarded d hh.0 g us) _ _ _ hg (λ e ys ends hg. answered (AMethod shown front (k ∷ ks)) (tree_of h g e.span.end) ys
+    (hh.3 g e ys hg.0 ends, within-token k (within-more hh.2 (within-more (within-links hh.0 ps (e ∷ ys) hh.1 hg.1) (within-token e (within-self ys))))))))
 
 -- ---- the visibility
 

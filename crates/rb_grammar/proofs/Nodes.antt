@@ -1,8 +1,13 @@
 -- A tree stands at tokens exactly where its node does, and the trees in it.
-use Rattle.std.proofs.Common.{◌≡◌, ◌⊎◌, inl, inr, List, [], ◌∷◌, map, Some, None, refl, sym, ap, subst, ◌∙◌}
+use Rattle.std.proofs.Common.{◌≡◌, ◌⊎◌, inl, inr, ℕ, List, [], ◌∷◌, map, Option, Some, None, refl, sym, ap, subst, ◌∙◌}
 use mathlib.Core.Path.{transport}
 use Rattle.rb_tree.specs.Trees.{span_of, span_at}
 use Rattle.rb_tree.specs.declared.token.Token.{Token}
+use Rattle.srb_terms.specs.declared.param_kind.ParamKind.{ParamKind}
+use Rattle.srb_terms.specs.declared.span.Span.{Span}
+use Rattle.rb_tree.specs.declared.syntax.Guarded.{Guarded}
+use Rattle.rb_tree.specs.declared.syntax.Rescue.{Rescue}
+use Rattle.rb_tree.specs.declared.syntax.Parameter.{Parameter}
 use Rattle.rb_tree.specs.declared.syntax.Tree.{Tree, out-Tree}
 use Rattle.rb_tree.specs.declared.syntax.Tree.TheOpen.{Tree-F}
 use Rattle.rb_tree.specs.declared.syntax.Tree.TheViews.{roll-Tree, out-roll-Tree, roll-out-Tree}
@@ -11,7 +16,6 @@ use Rattle.rb_tree.specs.declared.syntax.Suffix.TheVariants as suffix
 use Rattle.rb_tree.specs.declared.syntax.Argument.TheVariants as argument
 use Rattle.rb_tree.specs.declared.syntax.Piece.TheVariants as piece
 use Rattle.rb_tree.specs.declared.syntax.Pair.TheVariants as pair
-use Rattle.rb_tree.specs.declared.syntax.Parameter.TheVariants as parameter
 use Rattle.rb_grammar.specs.Places.{Each, IsPlaced, DoesNodeStand, StandsAt, TreesStandByNodes}
 
 -- ---- a fact of each element, and the same fact of what the elements are mapped to
@@ -31,6 +35,30 @@ four p q r s = λ i. p i × q i × r i × s i
 
 five : {A B C D E A' B' C' D' E' : Type 0} → A ≡ A' → B ≡ B' → C ≡ C' → D ≡ D' → E ≡ E' → (A × B × C × D × E) ≡ (A' × B' × C' × D' × E')
 five p q r s t = λ i. p i × q i × r i × s i × t i
+
+-- by whether a parameter has a default
+by-default : {X : Type 0} (P Q : Parameter X → Type 0) → ((kind : ParamKind) (name : List ℕ) (span : Span) → P (record { kind = kind; name = name; span = span; default = None }) ≡ Q (record { kind = kind; name = name; span = span; default = None })) →
+    ((kind : ParamKind) (name : List ℕ) (span : Span) (d : X) → P (record { kind = kind; name = name; span = span; default = Some d }) ≡ Q (record { kind = kind; name = name; span = span; default = Some d })) → (p : Parameter X) → P p ≡ Q p
+by-default {X = X} P Q h k p = go p.default
+  where
+    go : (o : Option X) → P (record { kind = p.kind; name = p.name; span = p.span; default = o }) ≡ Q (record { kind = p.kind; name = p.name; span = p.span; default = o })
+    go None = h p.kind p.name p.span
+    go (Some d) = k p.kind p.name p.span d
+
+-- by what stands behind the clauses
+by-guarded : {X : Type 0} (P Q : Guarded X → Type 0) →
+    ((b : X) (rs : List (Rescue X)) → P (record { body = b; rescues = rs; otherwise = None; ensure = None }) ≡ Q (record { body = b; rescues = rs; otherwise = None; ensure = None })) →
+    ((b : X) (rs : List (Rescue X)) (e : X) → P (record { body = b; rescues = rs; otherwise = None; ensure = Some e }) ≡ Q (record { body = b; rescues = rs; otherwise = None; ensure = Some e })) →
+    ((b : X) (rs : List (Rescue X)) (o : X) → P (record { body = b; rescues = rs; otherwise = Some o; ensure = None }) ≡ Q (record { body = b; rescues = rs; otherwise = Some o; ensure = None })) →
+    ((b : X) (rs : List (Rescue X)) (o e : X) → P (record { body = b; rescues = rs; otherwise = Some o; ensure = Some e }) ≡ Q (record { body = b; rescues = rs; otherwise = Some o; ensure = Some e })) →
+    (g : Guarded X) → P g ≡ Q g
+by-guarded {X = X} P Q h k l m g = go g.otherwise g.ensure
+  where
+    go : (o e : Option X) → P (record { body = g.body; rescues = g.rescues; otherwise = o; ensure = e }) ≡ Q (record { body = g.body; rescues = g.rescues; otherwise = o; ensure = e })
+    go None None = h g.body g.rescues
+    go None (Some e) = k g.body g.rescues e
+    go (Some o) None = l g.body g.rescues o
+    go (Some o) (Some e) = m g.body g.rescues o e
 
 -- whether a node stands is told by what stands for the trees in it
 natural : (tokens : List Token) (X : Type 0) (v : X → Tree) (k : Tree → Type 0) (x : Tree-F X) → DoesNodeStand tokens (λ p. k (v p)) x ≡ DoesNodeStand tokens k (map-Tree X Tree v x)
@@ -74,13 +102,19 @@ natural tokens X v k (Tree-F.Case None arms None span) = four refl refl (each-ma
 natural tokens X v k (Tree-F.Case None arms (Some otherwise) span) = four refl refl (each-mapped _ _ _ (λ w. both (each-mapped _ _ _ (λ x. refl) w.patterns) refl) arms) refl
 natural tokens X v k (Tree-F.Case (Some subject) arms None span) = four refl refl (each-mapped _ _ _ (λ w. both (each-mapped _ _ _ (λ x. refl) w.patterns) refl) arms) refl
 natural tokens X v k (Tree-F.Case (Some subject) arms (Some otherwise) span) = four refl refl (each-mapped _ _ _ (λ w. both (each-mapped _ _ _ (λ x. refl) w.patterns) refl) arms) refl
-natural tokens X v k (Tree-F.Def visibility own name name_span parameters body span) = four refl refl (each-mapped _ _ _ (elim [
-  | parameter.Required name span ↦ refl
-  | parameter.Optional name span default ↦ refl
-  | parameter.RequiredKeyword name span ↦ refl
-  | parameter.OptionalKeyword name span default ↦ refl
-  | parameter.Block name span ↦ refl
-]) parameters) refl
+natural tokens X v k (Tree-F.Begin guarded span) = by-guarded (λ g. DoesNodeStand tokens (λ p. k (v p)) (Tree-F.Begin g span)) (λ g. DoesNodeStand tokens k (map-Tree X Tree v (Tree-F.Begin g span)))
+    (λ b rs. both refl (four refl (each-mapped _ _ _ (λ r. three (each-mapped _ _ _ (λ x. refl) r.patterns) refl refl) rs) refl refl))
+    (λ b rs e. both refl (four refl (each-mapped _ _ _ (λ r. three (each-mapped _ _ _ (λ x. refl) r.patterns) refl refl) rs) refl refl))
+    (λ b rs o. both refl (four refl (each-mapped _ _ _ (λ r. three (each-mapped _ _ _ (λ x. refl) r.patterns) refl refl) rs) refl refl))
+    (λ b rs o e. both refl (four refl (each-mapped _ _ _ (λ r. three (each-mapped _ _ _ (λ x. refl) r.patterns) refl refl) rs) refl refl))
+    guarded
+natural tokens X v k (Tree-F.Def visibility own name name_span parameters guarded span) = by-guarded
+    (λ g. DoesNodeStand tokens (λ p. k (v p)) (Tree-F.Def visibility own name name_span parameters g span)) (λ g. DoesNodeStand tokens k (map-Tree X Tree v (Tree-F.Def visibility own name name_span parameters g span)))
+    (λ b rs. four refl refl (each-mapped _ _ _ (by-default _ _ (λ kind name span. refl) (λ kind name span d. refl)) parameters) (four refl (each-mapped _ _ _ (λ r. three (each-mapped _ _ _ (λ x. refl) r.patterns) refl refl) rs) refl refl))
+    (λ b rs e. four refl refl (each-mapped _ _ _ (by-default _ _ (λ kind name span. refl) (λ kind name span d. refl)) parameters) (four refl (each-mapped _ _ _ (λ r. three (each-mapped _ _ _ (λ x. refl) r.patterns) refl refl) rs) refl refl))
+    (λ b rs o. four refl refl (each-mapped _ _ _ (by-default _ _ (λ kind name span. refl) (λ kind name span d. refl)) parameters) (four refl (each-mapped _ _ _ (λ r. three (each-mapped _ _ _ (λ x. refl) r.patterns) refl refl) rs) refl refl))
+    (λ b rs o e. four refl refl (each-mapped _ _ _ (by-default _ _ (λ kind name span. refl) (λ kind name span d. refl)) parameters) (four refl (each-mapped _ _ _ (λ r. three (each-mapped _ _ _ (λ x. refl) r.patterns) refl refl) rs) refl refl))
+    guarded
 natural tokens X v k x = refl
 
 -- ---- the law

@@ -37,7 +37,7 @@ use Rattle.rb_rules.specs.Grammar.DerivesPrimary.{WholeNumber, FloatNumber, Sign
 use Rattle.rb_grammar.proofs.Steps.{Holds, answered, refused, step, weaker, choose, choosing, taking, naming, wording, follow, follow-words, shown, Within, within-self, within-token, within-more, gap, identifier, constant, instance_variable, label, symbol, whole, float, text}
 use Rattle.rb_grammar.proofs.Sound.{Sound, Primary, starts, used}
 use Rattle.rb_grammar.proofs.Lists.{and-left, element-holds}
-use Rattle.rb_grammar.proofs.Branches.{branch-holds, repeated-holds, choice-holds}
+use Rattle.rb_grammar.proofs.Branches.{branch-holds, repeated-holds, choice-holds, guards-holds}
 use Rattle.rb_grammar.proofs.Calls.{Given, given-holds, Blocked, block-behind-holds}
 
 -- ---- numbers
@@ -359,6 +359,7 @@ module _ (nested : Form → Bool → Parser Tree) (ih : Sound nested) (turns : �
   primary-by shape.While t ts is = repeated-holds nested ih turns free test.Positive t ts (inl (is, refl))
   primary-by shape.Until t ts is = repeated-holds nested ih turns free test.Negative t ts (inr (inl (is, refl)))
   primary-by shape.Case t ts is = choice-holds nested ih turns free t ts is
+  primary-by shape.Begin t ts is = guards-holds nested ih turns free t ts is
   primary-by s t ts is = refused _ _
 
   pub primary-holds : (xs : List Token) → Holds (primary nested turns free xs) (Primary free xs)

@@ -1,9 +1,10 @@
 -- Parameters that are read derive, in their order and each name once.
-use Rattle.std.proofs.Common.{◌≡◌, ℕ, zero, suc, Bool, true, false, not, if◌then◌else◌, List, [], ◌∷◌, ◌++◌, Some, None, Ok, Err, ◌⊎◌, inl, inr, refl, sym, ap, subst, ◌∙◌, append_assoc}
+use Rattle.std.proofs.Common.{◌≡◌, ℕ, zero, suc, Bool, true, false, not, if◌then◌else◌, List, [], ◌∷◌, ◌++◌, Some, None, Ok, Err, ◌⊎◌, inl, inr, refl, sym, subst, ◌∙◌, append_assoc}
 use Rattle.srb_terms.specs.declared.span.Span.{Span}
 use Rattle.rb_tree.specs.Tokens.{shape_of}
 use Rattle.rb_tree.specs.declared.syntax.Parameter.{Parameter}
-use Rattle.rb_tree.specs.declared.syntax.Parameter.TheVariants as parameter
+use Rattle.srb_terms.specs.declared.param_kind.ParamKind.{ParamKind}
+use Rattle.srb_terms.specs.declared.param_kind.ParamKind.TheVariants as param_kind
 use Rattle.rb_tree.specs.declared.syntax.Tree.{Tree}
 use Rattle.rb_tree.specs.declared.token.Token.{Token}
 use Rattle.rb_tree.specs.declared.token.TokenKind.{TokenKind}
@@ -13,9 +14,9 @@ use Rattle.rb_expr.specs.Reading.{Outcome, sees, after, skip_separators}
 use Rattle.rb_decl.specs.declared.parameter.Stage.{Stage}
 use Rattle.rb_decl.specs.declared.parameter.Stage.TheVariants as stage
 use Rattle.rb_decl.specs.Parameters as spec
-use Rattle.rb_decl.specs.Parameters.{name_of, stage_behind, is_among, fresh, noted, is_plain, is_first, is_last, plain, has_no_default, keyword, block, behind_comma, is_over, row_from, row, bracketed, bare, parameters_of}
+use Rattle.rb_decl.specs.Parameters.{stage_behind, is_among, fresh, noted, is_plain, is_first, is_last, plain, has_no_default, keyword, block, behind_comma, is_over, row_from, row, bracketed, bare, parameters_of}
 use Rattle.rb_rules.specs.Tokens.{Is, IsIdentifier, IsLabel}
-use Rattle.rb_rules.specs.Forms.{AreParameters, AreOptional, AreKeywords, AreDistinct, IsNot, name_of_parameter, names_of_parameters}
+use Rattle.rb_rules.specs.Forms.{AreParameters, AreKinds, AreOptionalKinds, AreKeyKinds, kinds_of, AreDistinct, IsNot, names_of_parameters}
 use Rattle.rb_rules.specs.Grammar.{Gap, GapIn, DerivesParameter, DerivesParameterList, DerivesParameters}
 use Rattle.rb_rules.specs.Grammar.GapIn.{Tight, Loose}
 use Rattle.rb_rules.specs.Grammar.DerivesParameter.{Required, Optional, RequiredKeyword, OptionalKeyword, BlockParameter}
@@ -27,91 +28,89 @@ use Rattle.rb_grammar.proofs.Forms.{term-holds}
 
 -- ---- orders and names
 
--- a parameter may come at a stage
-abbrev Fits : Parameter Tree → Stage → Type 0
-Fits (parameter.Required n s) at = is_first at ≡ true
-Fits (parameter.Optional n s v) at = is_plain at ≡ true
-Fits p at = Unit {0}
+-- a parameter of this kind may come at a stage
+abbrev Fits : ParamKind → Stage → Type 0
+Fits param_kind.Required at = is_first at ≡ true
+Fits param_kind.Optional at = is_plain at ≡ true
+Fits param_kind.Key at = Unit {0}
+Fits param_kind.KeyOptional at = Unit {0}
+Fits param_kind.Block at = Unit {0}
+Fits param_kind.Rest at = ⊥
 
-abbrev InOrder : Stage → List (Parameter Tree) → Type 0
-InOrder stage.Required ps = AreParameters ps
-InOrder stage.Optional ps = AreOptional ps
-InOrder stage.Keyword ps = AreKeywords ps
-InOrder stage.Block ps = Unit {0}
+abbrev InOrder : Stage → List ParamKind → Type 0
+InOrder stage.Required ks = AreKinds ks
+InOrder stage.Optional ks = AreOptionalKinds ks
+InOrder stage.Keyword ks = AreKeyKinds ks
+InOrder stage.Block ks = Unit {0}
 
-last-in-order : (at : Stage) (p : Parameter Tree) → Fits p at → InOrder at (p ∷ [])
-last-in-order stage.Required (parameter.Required n s) h = tt
-last-in-order stage.Optional (parameter.Required n s) h = absurd (cc)
-last-in-order stage.Keyword (parameter.Required n s) h = absurd (cc)
-last-in-order stage.Required (parameter.Optional n s v) h = tt
-last-in-order stage.Optional (parameter.Optional n s v) h = tt
-last-in-order stage.Keyword (parameter.Optional n s v) h = absurd (cc)
-last-in-order stage.Required (parameter.RequiredKeyword n s) h = tt
-last-in-order stage.Optional (parameter.RequiredKeyword n s) h = tt
-last-in-order stage.Keyword (parameter.RequiredKeyword n s) h = tt
-last-in-order stage.Required (parameter.OptionalKeyword n s v) h = tt
-last-in-order stage.Optional (parameter.OptionalKeyword n s v) h = tt
-last-in-order stage.Keyword (parameter.OptionalKeyword n s v) h = tt
-last-in-order stage.Required (parameter.Block n s) h = tt
-last-in-order stage.Optional (parameter.Block n s) h = tt
-last-in-order stage.Keyword (parameter.Block n s) h = tt
-last-in-order stage.Block p h = tt
+last-in-order : (at : Stage) (k : ParamKind) → Fits k at → InOrder at (k ∷ [])
+last-in-order stage.Required param_kind.Required h = tt
+last-in-order stage.Optional param_kind.Required h = absurd (cc)
+last-in-order stage.Keyword param_kind.Required h = absurd (cc)
+last-in-order stage.Required param_kind.Optional h = tt
+last-in-order stage.Optional param_kind.Optional h = tt
+last-in-order stage.Keyword param_kind.Optional h = absurd (cc)
+last-in-order stage.Required param_kind.Key h = tt
+last-in-order stage.Optional param_kind.Key h = tt
+last-in-order stage.Keyword param_kind.Key h = tt
+last-in-order stage.Required param_kind.KeyOptional h = tt
+last-in-order stage.Optional param_kind.KeyOptional h = tt
+last-in-order stage.Keyword param_kind.KeyOptional h = tt
+last-in-order stage.Required param_kind.Block h = tt
+last-in-order stage.Optional param_kind.Block h = tt
+last-in-order stage.Keyword param_kind.Block h = tt
+last-in-order stage.Block k h = tt
+last-in-order at param_kind.Rest h = absurd h
 
-more-in-order : (at : Stage) (p : Parameter Tree) (more : List (Parameter Tree)) → Fits p at → is_last (stage_behind p) ≡ false → InOrder (stage_behind p) more → InOrder at (p ∷ more)
-more-in-order stage.Required (parameter.Required n s) more h l o = o
-more-in-order stage.Optional (parameter.Required n s) more h l o = absurd (cc)
-more-in-order stage.Keyword (parameter.Required n s) more h l o = absurd (cc)
-more-in-order stage.Required (parameter.Optional n s v) more h l o = o
-more-in-order stage.Optional (parameter.Optional n s v) more h l o = o
-more-in-order stage.Keyword (parameter.Optional n s v) more h l o = absurd (cc)
-more-in-order stage.Required (parameter.RequiredKeyword n s) more h l o = o
-more-in-order stage.Optional (parameter.RequiredKeyword n s) more h l o = o
-more-in-order stage.Keyword (parameter.RequiredKeyword n s) more h l o = o
-more-in-order stage.Required (parameter.OptionalKeyword n s v) more h l o = o
-more-in-order stage.Optional (parameter.OptionalKeyword n s v) more h l o = o
-more-in-order stage.Keyword (parameter.OptionalKeyword n s v) more h l o = o
-more-in-order stage.Required (parameter.Block n s) more h l o = absurd (cc)
-more-in-order stage.Optional (parameter.Block n s) more h l o = absurd (cc)
-more-in-order stage.Keyword (parameter.Block n s) more h l o = absurd (cc)
-more-in-order stage.Block p more h l o = tt
-
-same-name : (p : Parameter Tree) → name_of p ≡ name_of_parameter p
-same-name (parameter.Required n s) = refl
-same-name (parameter.Optional n s v) = refl
-same-name (parameter.RequiredKeyword n s) = refl
-same-name (parameter.OptionalKeyword n s v) = refl
-same-name (parameter.Block n s) = refl
+more-in-order : (at : Stage) (k : ParamKind) (more : List ParamKind) → Fits k at → is_last (stage_behind k) ≡ false → InOrder (stage_behind k) more → InOrder at (k ∷ more)
+more-in-order stage.Required param_kind.Required more h l o = o
+more-in-order stage.Optional param_kind.Required more h l o = absurd (cc)
+more-in-order stage.Keyword param_kind.Required more h l o = absurd (cc)
+more-in-order stage.Required param_kind.Optional more h l o = o
+more-in-order stage.Optional param_kind.Optional more h l o = o
+more-in-order stage.Keyword param_kind.Optional more h l o = absurd (cc)
+more-in-order stage.Required param_kind.Key more h l o = o
+more-in-order stage.Optional param_kind.Key more h l o = o
+more-in-order stage.Keyword param_kind.Key more h l o = o
+more-in-order stage.Required param_kind.KeyOptional more h l o = o
+more-in-order stage.Optional param_kind.KeyOptional more h l o = o
+more-in-order stage.Keyword param_kind.KeyOptional more h l o = o
+more-in-order stage.Required param_kind.Block more h l o = absurd (cc)
+more-in-order stage.Optional param_kind.Block more h l o = absurd (cc)
+more-in-order stage.Keyword param_kind.Block more h l o = absurd (cc)
+more-in-order stage.Block k more h l o = tt
+more-in-order at param_kind.Rest more h l o = absurd h
 
 -- none of these parameters has one of these names
 abbrev Fresh : List (List ℕ) → List (Parameter Tree) → Type 0
 Fresh names [] = Unit {0}
-Fresh names (p ∷ more) = (is_among names (name_of_parameter p) ≡ false) × Fresh names more
+Fresh names (p ∷ more) = (is_among names p.name ≡ false) × Fresh names more
 
 apart-all : (names : List (List ℕ)) (w : List ℕ) (more : List (Parameter Tree)) → Fresh (names ++ w ∷ []) more → Fresh names more × IsNot w (names_of_parameters more)
 apart-all names w [] h = (tt, tt)
-apart-all names w (p ∷ more) h = let here = apart names w (name_of_parameter p) h.0 in let rest = apart-all names w more h.1 in ((here.0, rest.0), (here.1, rest.1))
+apart-all names w (p ∷ more) h = let here = apart names w p.name h.0 in let rest = apart-all names w more h.1 in ((here.0, rest.0), (here.1, rest.1))
 
 -- ---- one parameter
 
 abbrev AParameter : Stage → List (List ℕ) → List Token → Parameter Tree → List Token → Type 0
-AParameter at names xs p ys = DerivesParameter p xs ys × Within xs ys × Fits p at × (is_among names (name_of_parameter p) ≡ false)
+AParameter at names xs p ys = DerivesParameter p xs ys × Within xs ys × Fits p.kind at × (is_among names p.name ≡ false)
 
 plain-holds : (d : ℕ) (at : Stage) (names : List (List ℕ)) (t : Token) (w : List ℕ) (ts : List Token) → IsIdentifier t w → is_plain at ≡ true → is_among names w ≡ false → Holds (plain d at w t.span ts) (AParameter at names (t ∷ ts))
 unfolding plain
 plain-holds d at names t w [] is p new = choosing (is_first at)
-    (λ e. answered (AParameter at names (t ∷ [])) (parameter.Required w t.span) [] (Required _ _ _ is, within-token t (within-self _), e, new))
+    (λ e. answered (AParameter at names (t ∷ [])) (spec.parameter_of param_kind.Required w t.span None) [] (Required _ _ _ is, within-token t (within-self _), e, new))
     (λ e. refused _ _)
 plain-holds d at names t w (a ∷ as') is p new = testing
-    (λ assign. step (term-holds d as') (λ v ys h. answered (AParameter at names (t ∷ a ∷ as')) (parameter.Optional w t.span v) ys (Optional _ _ _ _ _ _ is assign h.0, within-token t (within-token a h.1), p, new)))
+    (λ assign. step (term-holds d as') (λ v ys h. answered (AParameter at names (t ∷ a ∷ as')) (spec.parameter_of param_kind.Optional w t.span (Some v)) ys (Optional _ _ _ _ _ _ is assign h.0, within-token t (within-token a h.1), p, new)))
     (λ other. choosing (is_first at)
-    (λ e. answered (AParameter at names (t ∷ a ∷ as')) (parameter.Required w t.span) (a ∷ as') (Required _ _ _ is, within-token t (within-self _), e, new))
+    (λ e. answered (AParameter at names (t ∷ a ∷ as')) (spec.parameter_of param_kind.Required w t.span None) (a ∷ as') (Required _ _ _ is, within-token t (within-self _), e, new))
     (λ e. refused _ _))
 
 keyword-holds : (d : ℕ) (at : Stage) (names : List (List ℕ)) (t : Token) (w : List ℕ) (ts : List Token) → IsLabel t w → is_among names w ≡ false → Holds (keyword d w t.span ts) (AParameter at names (t ∷ ts))
 unfolding keyword
 keyword-holds d at names t w ts is new = choosing (has_no_default ts)
-    (λ e. answered (AParameter at names (t ∷ ts)) (parameter.RequiredKeyword w t.span) ts (RequiredKeyword _ _ _ is, within-token t (within-self _), tt, new))
-    (λ e. step (term-holds d ts) (λ v ys h. answered (AParameter at names (t ∷ ts)) (parameter.OptionalKeyword w t.span v) ys (OptionalKeyword _ _ _ _ _ is h.0, within-token t h.1, tt, new)))
+    (λ e. answered (AParameter at names (t ∷ ts)) (spec.parameter_of param_kind.Key w t.span None) ts (RequiredKeyword _ _ _ is, within-token t (within-self _), tt, new))
+    (λ e. step (term-holds d ts) (λ v ys h. answered (AParameter at names (t ∷ ts)) (spec.parameter_of param_kind.KeyOptional w t.span (Some v)) ys (OptionalKeyword _ _ _ _ _ is h.0, within-token t h.1, tt, new)))
 
 -- a choice by whether a name is new
 new-or-not : {A : Type 0} {Q : A → List Token → Type 0} (names : List (List ℕ)) (w : List ℕ) (f : List ℕ → Outcome A) (old : Outcome A) → (is_among names w ≡ false → Holds (f w) Q) → Holds old Q → Holds (elim (fresh names w) as (λ o. Outcome A) [ Some name ↦ f name | None ↦ old ]) Q
@@ -124,8 +123,8 @@ new-or-not {A} {Q} names w f old k l = go (is_among names w) refl
 
 block-at : (at : Stage) (names : List (List ℕ)) (a : Token) → Is shape.Ampersand a → (k : TokenKind) (s : Span) (ts : List Token) → Holds (block names (record { kind = k; span = s } ∷ ts)) (AParameter at names (a ∷ record { kind = k; span = s } ∷ ts))
 unfolding block
-block-at at names a is (kind.Identifier w) s ts = new-or-not names w (λ name. Ok (parameter.Block name s, ts)) (Err (record { kind = kind.Identifier w; span = s } ∷ ts))
-    (λ new. answered (AParameter at names (a ∷ record { kind = kind.Identifier w; span = s } ∷ ts)) (parameter.Block w s) ts (BlockParameter _ _ _ _ is refl, within-token a (within-token _ (within-self _)), tt, new))
+block-at at names a is (kind.Identifier w) s ts = new-or-not names w (λ name. Ok (spec.parameter_of param_kind.Block name s None, ts)) (Err (record { kind = kind.Identifier w; span = s } ∷ ts))
+    (λ new. answered (AParameter at names (a ∷ record { kind = kind.Identifier w; span = s } ∷ ts)) (spec.parameter_of param_kind.Block w s None) ts (BlockParameter _ _ _ _ is refl, within-token a (within-token _ (within-self _)), tt, new))
     (refused _ _)
 block-at at names a is k s ts = refused _ _
 
@@ -153,7 +152,7 @@ parameter-holds d at names (t ∷ ts) = parameter-at d at names t.kind t.span ts
 -- ---- rows
 
 abbrev Row : Bool → Stage → List (List ℕ) → List (Parameter Tree) → List Token → List (Parameter Tree) → List Token → Type 0
-Row bracketed at names found xs r ys = (p : Parameter Tree) × (more : List (Parameter Tree)) × (r ≡ found ++ p ∷ more) × DerivesParameterList bracketed (p ∷ more) xs ys × InOrder at (p ∷ more)
+Row bracketed at names found xs r ys = (p : Parameter Tree) × (more : List (Parameter Tree)) × (r ≡ found ++ p ∷ more) × DerivesParameterList bracketed (p ∷ more) xs ys × InOrder at (kinds_of (p ∷ more))
     × Fresh names (p ∷ more) × AreDistinct (names_of_parameters (p ∷ more)) × Within xs ys
 
 gap-in : (b : Bool) (ts : List Token) → GapIn b ts (if b then skip_separators ts else ts) × Within ts (if b then skip_separators ts else ts)
@@ -167,21 +166,20 @@ going-on at xs e = (or-left _ _ e, seen' (sees shape.Comma xs) (or-right (is_las
     seen' true e = refl
     seen' false e = absurd (cc)
 
-row-more : (bracketed : Bool) (at : Stage) (names : List (List ℕ)) (found : List (Parameter Tree)) (xs ps : List Token) (p : Parameter Tree) → AParameter at names xs p ps → is_over (stage_behind p) ps ≡ false → (r : List (Parameter Tree)) (ys : List Token) →
-    Row bracketed (stage_behind p) (noted names (name_of p)) (found ++ p ∷ []) (behind_comma bracketed ps) r ys → Row bracketed at names found xs r ys
+row-more : (bracketed : Bool) (at : Stage) (names : List (List ℕ)) (found : List (Parameter Tree)) (xs ps : List Token) (p : Parameter Tree) → AParameter at names xs p ps → is_over (stage_behind p.kind) ps ≡ false → (r : List (Parameter Tree)) (ys : List Token) →
+    Row bracketed (stage_behind p.kind) (noted names p.name) (found ++ p ∷ []) (behind_comma bracketed ps) r ys → Row bracketed at names found xs r ys
 row-more bracketed at names found xs ps p h over r ys m =
-    let on = going-on (stage_behind p) ps over in
+    let on = going-on (stage_behind p.kind) ps over in
     let s = seen shape.Comma ps on.1 in
     let here = subst (λ us. DerivesParameter p xs us × Within xs us) s.2 (h.0, h.1) in
     let g = gap-in bracketed (after ps) in
-    let new : is_among names (name_of p) ≡ false = subst (λ w. is_among names w ≡ false) (sym (same-name p)) h.3 in
-    let names' : noted names (name_of p) ≡ names ++ name_of_parameter p ∷ [] = noted-new names (name_of p) new ∙ ap (λ w. names ++ w ∷ []) (same-name p) in
-    let apart' = apart-all names (name_of_parameter p) (m.0 ∷ m.1) (subst (λ ns. Fresh ns (m.0 ∷ m.1)) names' m.5) in (
+    let names' : noted names p.name ≡ names ++ p.name ∷ [] = noted-new names p.name h.3 in
+    let apart' = apart-all names p.name (m.0 ∷ m.1) (subst (λ ns. Fresh ns (m.0 ∷ m.1)) names' m.5) in (
       p,
       m.0 ∷ m.1,
       m.2 ∙ append_assoc found (p ∷ []) (m.0 ∷ m.1),
       MoreParameters _ _ _ _ _ _ _ _ here.0 s.1 g.0 m.3,
-      more-in-order at p (m.0 ∷ m.1) h.2 on.0 m.4,
+      more-in-order at p.kind (kinds_of (m.0 ∷ m.1)) h.2 on.0 m.4,
       (h.3, apart'.0),
       (apart'.1, m.6),
       within-more here.1 (within-token s.0 (within-more g.1 m.7)),
@@ -190,9 +188,9 @@ row-more bracketed at names found xs ps p h over r ys m =
 row-by : (d : ℕ) (bracketed : Bool) (n : ℕ) (at : Stage) (names : List (List ℕ)) (found : List (Parameter Tree)) (xs : List Token) → Holds (row_from d bracketed n at names found xs) (Row bracketed at names found xs)
 unfolding row_from
 row-by d bracketed zero at names found xs = refused _ _
-row-by d bracketed (suc n) at names found xs = step (parameter-holds d at names xs) (λ p ps h. choosing (is_over (stage_behind p) ps)
-    (λ e. answered (Row bracketed at names found xs) (found ++ p ∷ []) ps (p, [], refl, LastParameter _ _ _ _ h.0, last-in-order at p h.2, (h.3, tt), (tt, tt), h.1))
-    (λ e. weaker (row-by d bracketed n (stage_behind p) (noted names (name_of p)) (found ++ p ∷ []) (behind_comma bracketed ps)) (λ r ys m. row-more bracketed at names found xs ps p h e r ys m)))
+row-by d bracketed (suc n) at names found xs = step (parameter-holds d at names xs) (λ p ps h. choosing (is_over (stage_behind p.kind) ps)
+    (λ e. answered (Row bracketed at names found xs) (found ++ p ∷ []) ps (p, [], refl, LastParameter _ _ _ _ h.0, last-in-order at p.kind h.2, (h.3, tt), (tt, tt), h.1))
+    (λ e. weaker (row-by d bracketed n (stage_behind p.kind) (noted names p.name) (found ++ p ∷ []) (behind_comma bracketed ps)) (λ r ys m. row-more bracketed at names found xs ps p h e r ys m)))
 
 row-holds : (d : ℕ) (bracketed : Bool) (xs : List Token) → Holds (row d bracketed xs) (Row bracketed stage.Required [] [] xs)
 unfolding row

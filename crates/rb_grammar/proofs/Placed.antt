@@ -7,7 +7,7 @@ use Rattle.rb_tree.specs.declared.syntax.Tree.{Tree, out-Tree}
 use Rattle.rb_tree.specs.declared.syntax.Tree.TheOpen.{Tree-F}
 use Rattle.rb_tree.specs.declared.syntax.Tree.TheViews.{roll-Tree, out-roll-Tree}
 use Rattle.rb_tree.specs.declared.syntax.Tree.TheVariants as tree
-use Rattle.rb_tree.specs.declared.syntax.Tree.TheVariants.{rolls-Body, rolls-Modified, rolls-Jump, rolls-Assign, rolls-OperatorAssign, rolls-Command, rolls-Conditional, rolls-Binary, rolls-Unary, rolls-Post, rolls-Whole, rolls-Float, rolls-Text, rolls-Symbol, rolls-InstanceVariable, rolls-Constant, rolls-TopConstant, rolls-SelfWord, rolls-Nil, rolls-True, rolls-False, rolls-Name, rolls-Call, rolls-Yield, rolls-Super, rolls-Array, rolls-Hash, rolls-Parens, rolls-If, rolls-While, rolls-Case, rolls-Class, rolls-Module, rolls-Def}
+use Rattle.rb_tree.specs.declared.syntax.Tree.TheVariants.{rolls-Body, rolls-Modified, rolls-Jump, rolls-Assign, rolls-OperatorAssign, rolls-Command, rolls-Conditional, rolls-Binary, rolls-Unary, rolls-Post, rolls-Whole, rolls-Float, rolls-Text, rolls-Symbol, rolls-InstanceVariable, rolls-Constant, rolls-TopConstant, rolls-SelfWord, rolls-Nil, rolls-True, rolls-False, rolls-Name, rolls-Call, rolls-Yield, rolls-Super, rolls-Array, rolls-Hash, rolls-Parens, rolls-If, rolls-While, rolls-Case, rolls-Begin, rolls-Class, rolls-Module, rolls-Def}
 use Rattle.rb_tree.specs.declared.syntax.Modifier.{Modifier}
 use Rattle.rb_tree.specs.declared.syntax.Jump.{Jump}
 use Rattle.rb_tree.specs.declared.syntax.Test.{Test}
@@ -24,11 +24,12 @@ use Rattle.rb_tree.specs.declared.syntax.Arm.{Arm}
 use Rattle.rb_tree.specs.declared.syntax.When.{When}
 use Rattle.rb_tree.specs.declared.syntax.PlacedName.{PlacedName}
 use Rattle.rb_tree.specs.declared.syntax.Reference.{Reference}
+use Rattle.rb_tree.specs.declared.syntax.Guarded.{Guarded}
 use Rattle.rb_tree.specs.declared.syntax.Parameter.{Parameter}
 use Rattle.rb_rules.specs.Tokens.{IsOneOf}
 use Rattle.rb_rules.specs.Spans.{across, last_of, suffix_span, argument_span, block_or}
 use Rattle.rb_rules.specs.Grammar.{posted, body_of, span_of_arguments}
-use Rattle.rb_grammar.specs.Places.{Each, IfThere, AreInOrder, IsPlaced, IsNamePlaced, IsReferencePlaced, DoesArgumentStand, DoesBlockStand, DoesSuffixStand, DoesPieceStand, DoesPairStand, DoesArmStand, DoesWhenStand, DoesParameterStand, DoesNodeStand, StandsAt}
+use Rattle.rb_grammar.specs.Places.{Each, IfThere, AreInOrder, IsPlaced, IsNamePlaced, IsReferencePlaced, DoesArgumentStand, DoesBlockStand, DoesSuffixStand, DoesPieceStand, DoesPairStand, DoesArmStand, DoesWhenStand, DoesParameterStand, DoesGuardedStand, DoesNodeStand, StandsAt}
 use Rattle.rb_grammar.proofs.Steps.{Within, within-self, within-token as push, within-more as go}
 use Rattle.rb_grammar.proofs.Nodes.{stands}
 
@@ -296,6 +297,9 @@ module _ (tokens : List Token) where
     pub cases : (t : Option Tree) (arms : List (When Tree)) (e : Option Tree) (s : Span) → IfThere (StandsAt tokens) t → Each (DoesWhenStand tokens (StandsAt tokens)) arms → IfThere (StandsAt tokens) e → Begins xs s → Stood xs (tree.Case t arms e s)
     cases t arms e s k all m h = stood _ (Tree-F.Case t arms e s) (rolls-Case _ _ _ _) h (λ p. (p, k, all, m))
 
+    pub begins : (g : Guarded Tree) (s : Span) → DoesGuardedStand tokens (StandsAt tokens) g → Begins xs s → Stood xs (tree.Begin g s)
+    begins g s k h = stood _ (Tree-F.Begin g s) (rolls-Begin _ _) h (λ p. (p, k))
+
     -- ---- declarations
 
     pub class-of : (path : List PlacedName) (r : Option Reference) (b : Tree) (s : Span) → Each (IsNamePlaced tokens) path → IfThere (IsReferencePlaced tokens) r → StandsAt tokens b → Begins xs s → Stood xs (tree.Class path r b s)
@@ -304,5 +308,5 @@ module _ (tokens : List Token) where
     pub module-of : (path : List PlacedName) (b : Tree) (s : Span) → Each (IsNamePlaced tokens) path → StandsAt tokens b → Begins xs s → Stood xs (tree.Module path b s)
     module-of path b s k l h = stood _ (Tree-F.Module path b s) (rolls-Module _ _ _) h (λ p. (p, k, l))
 
-    pub method : (v : Option Visibility) (own : Bool) (words : List ℕ) (n : Span) (ps : List (Parameter Tree)) (b : Tree) (s : Span) → IsPlaced tokens n → Each (DoesParameterStand tokens (StandsAt tokens)) ps → StandsAt tokens b → Begins xs s → Stood xs (tree.Def v own words n ps b s)
-    method v own words n ps b s k all l h = stood _ (Tree-F.Def v own words n ps b s) (rolls-Def _ _ _ _ _ _ _) h (λ p. (p, k, all, l))
+    pub method : (v : Option Visibility) (own : Bool) (words : List ℕ) (n : Span) (ps : List (Parameter Tree)) (g : Guarded Tree) (s : Span) → IsPlaced tokens n → Each (DoesParameterStand tokens (StandsAt tokens)) ps → DoesGuardedStand tokens (StandsAt tokens) g → Begins xs s → Stood xs (tree.Def v own words n ps g s)
+    method v own words n ps g s k all l h = stood _ (Tree-F.Def v own words n ps g s) (rolls-Def _ _ _ _ _ _ _) h (λ p. (p, k, all, l))

@@ -5,14 +5,15 @@ use Rattle.rb_tree.specs.declared.syntax.Tree.{Tree, out-Tree}
 use Rattle.rb_tree.specs.declared.syntax.Tree.TheOpen.{Tree-F}
 use Rattle.rb_tree.specs.declared.syntax.Tree.TheViews.{roll-Tree, out-roll-Tree}
 use Rattle.rb_tree.specs.declared.token.Token.{Token}
+use Rattle.rb_tree.specs.declared.token.Shape.TheVariants as shape
 use Rattle.rb_expr.specs.declared.form.Form.{Form}
 use Rattle.rb_expr.specs.declared.form.Form.TheVariants as form
-use Rattle.rb_expr.specs.Reading.{Parser, start_of}
+use Rattle.rb_expr.specs.Reading.{Parser, start_of, sees}
 use Rattle.rb_expr.specs.Statements.{ending_of, ending_at}
 use Rattle.rb_expr.specs.declared.ending.Ending.{Ending}
 use Rattle.rb_expr.specs.declared.ending.Ending.TheVariants as ending
 use Rattle.rb_rules.specs.Forms.{Inside}
-use Rattle.rb_rules.specs.Grammar.{DerivesBody, DerivesSimple, DerivesValue, DerivesTerm, DerivesLevel, DerivesPrefixed, DerivesPrimary, DerivesTarget, DerivesCallee}
+use Rattle.rb_rules.specs.Grammar.{Parted, DerivesBody, DerivesSimple, DerivesValue, DerivesTerm, DerivesLevel, DerivesPrefixed, DerivesPrimary, DerivesTarget, DerivesCallee}
 use Rattle.rb_grammar.proofs.Steps.{Holds, Within}
 
 -- the tree begins where the tokens do
@@ -43,8 +44,12 @@ Primary free xs t ys = (last : Token) × DerivesPrimary free t last xs ys × Wit
 pub used : (free : Bool) (t : Tree) (r : Tree-F Tree) (xs ys : List Token) → roll-Tree r ≡ t → Uses (ending_at r) free t xs ys → Uses (ending_of t) free t xs ys
 used free t r xs ys e h = subst (λ x. Uses x free t xs ys) (sym (ends t r e)) h
 
+-- before a `rescue` that is next, the body may be left where a separator or nothing is between the two
+abbrev pub Ready : Bool → Tree → List Token → List Token → Type 0
+Ready free t xs ys = sees shape.Rescue ys ≡ true → (zs : List Token) × DerivesBody Inside free t xs zs × Parted t zs ys
+
 pub record Sound (nested : Form → Bool → Parser Tree) : Type 0 where
-  pub body : (free : Bool) (xs : List Token) → Holds (nested form.Body free xs) (λ t ys. DerivesBody Inside free t xs ys × Within xs ys)
+  pub body : (free : Bool) (xs : List Token) → Holds (nested form.Body free xs) (λ t ys. DerivesBody Inside free t xs ys × Within xs ys × Ready free t xs ys)
   pub simple : (free : Bool) (xs : List Token) → Holds (nested form.Simple free xs) (λ t ys. DerivesSimple false free t xs ys × Within xs ys × Starts t xs)
   pub value : (free : Bool) (xs : List Token) → Holds (nested form.Value free xs) (λ t ys. DerivesValue false free t xs ys × Within xs ys × Starts t xs)
   pub term : (free : Bool) (xs : List Token) → Holds (nested form.Tern free xs) (λ t ys. DerivesTerm free t xs ys × Within xs ys × Starts t xs)

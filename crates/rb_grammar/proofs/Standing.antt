@@ -19,11 +19,13 @@ use Rattle.rb_tree.specs.declared.syntax.Arm.{Arm}
 use Rattle.rb_tree.specs.declared.syntax.When.{When}
 use Rattle.rb_tree.specs.declared.syntax.PlacedName.{PlacedName}
 use Rattle.rb_tree.specs.declared.syntax.Reference.{Reference}
+use Rattle.rb_tree.specs.declared.syntax.Guarded.{Guarded}
+use Rattle.rb_tree.specs.declared.syntax.Rescue.{Rescue}
 use Rattle.rb_tree.specs.declared.syntax.Parameter.{Parameter}
 use Rattle.rb_rules.specs.Tokens.{IsOneOf}
 use Rattle.rb_rules.specs.Spans.{across, last_of}
 use Rattle.rb_rules.specs.Forms.{Site}
-use Rattle.rb_rules.specs.Grammar.{named_call, front_span, Gap, GapIn, Then, BarNames, Bars, Path, Superclass, MethodName, Owner, DerivesBody, DerivesMore, DerivesStatement, DerivesModified, DerivesSimple, DerivesValue, DerivesTarget, DerivesCallee, DerivesArguments, DerivesArgument, DerivesTerm, DerivesLevel, DerivesPrefixed, DerivesOperand, DerivesSuffix, DerivesIndex, DerivesEnd, DerivesBrackets, DerivesBlockBehind, DerivesBlock, DerivesDo, DerivesPrimary, DerivesPieces, DerivesElements, DerivesPairs, DerivesPair, DerivesArms, DerivesElse, DerivesSubject, DerivesWhens, DerivesPatterns, DerivesDeclaration, DerivesMethod, DerivesParameters, DerivesParameterList, DerivesParameter}
+use Rattle.rb_rules.specs.Grammar.{named_call, front_span, Gap, GapIn, Then, BarNames, Bars, Path, Superclass, MethodName, Owner, Parted, RescueVariable, DerivesBody, DerivesMore, DerivesStatement, DerivesModified, DerivesSimple, DerivesValue, DerivesTarget, DerivesCallee, DerivesArguments, DerivesArgument, DerivesTerm, DerivesLevel, DerivesPrefixed, DerivesOperand, DerivesSuffix, DerivesIndex, DerivesEnd, DerivesBrackets, DerivesBlockBehind, DerivesBlock, DerivesDo, DerivesPrimary, DerivesPieces, DerivesElements, DerivesPairs, DerivesPair, DerivesArms, DerivesElse, DerivesSubject, DerivesWhens, DerivesPatterns, DerivesGuarded, DerivesRescues, DerivesRaised, DerivesEnsure, DerivesDeclaration, DerivesMethod, DerivesParameters, DerivesParameterList, DerivesParameter}
 use Rattle.rb_rules.specs.Grammar.Gap.{Closed, Wide}
 use Rattle.rb_rules.specs.Grammar.GapIn.{Tight, Loose}
 use Rattle.rb_rules.specs.Grammar.Then.{Word, Line, LineWord}
@@ -54,7 +56,7 @@ use Rattle.rb_rules.specs.Grammar.DerivesBrackets.{NoBrackets, EmptyBrackets, Br
 use Rattle.rb_rules.specs.Grammar.DerivesBlockBehind.{NoBlock, SomeBlock}
 use Rattle.rb_rules.specs.Grammar.DerivesBlock.{Braces, DoEnd}
 use Rattle.rb_rules.specs.Grammar.DerivesDo.{NoDo, SomeDo}
-use Rattle.rb_rules.specs.Grammar.DerivesPrimary.{WholeNumber, FloatNumber, SignedWhole, SignedFloat, String, SymbolName, InstanceName, ConstantName, FromTop, SelfPlace, NilPlace, TruePlace, FalsePlace, NameAlone, CallWithBrackets, CallWithBlock, Yields, Supers, EmptyArray, SomeArray, EmptyHash, SomeHash, InParens, Branches, Loops, Cases}
+use Rattle.rb_rules.specs.Grammar.DerivesPrimary.{WholeNumber, FloatNumber, SignedWhole, SignedFloat, String, SymbolName, InstanceName, ConstantName, FromTop, SelfPlace, NilPlace, TruePlace, FalsePlace, NameAlone, CallWithBrackets, CallWithBlock, Yields, Supers, EmptyArray, SomeArray, EmptyHash, SomeHash, InParens, Branches, Loops, Guards, Cases}
 use Rattle.rb_rules.specs.Grammar.DerivesPieces.{NoPiece, MorePieces}
 use Rattle.rb_rules.specs.Grammar.DerivesElements.{LastElement, MoreElements}
 use Rattle.rb_rules.specs.Grammar.DerivesPairs.{LastPair, MorePairs}
@@ -64,12 +66,18 @@ use Rattle.rb_rules.specs.Grammar.DerivesElse.{NoElse, SomeElse}
 use Rattle.rb_rules.specs.Grammar.DerivesSubject.{NoSubject, SomeSubject}
 use Rattle.rb_rules.specs.Grammar.DerivesWhens.{NoWhen, MoreWhens}
 use Rattle.rb_rules.specs.Grammar.DerivesPatterns.{LastPattern, MorePatterns}
+use Rattle.rb_rules.specs.Grammar.Parted.{BehindNothing, BehindSeparator}
+use Rattle.rb_rules.specs.Grammar.RescueVariable.{NoVariable, Bound}
+use Rattle.rb_rules.specs.Grammar.DerivesGuarded.{Unrescued, Rescued}
+use Rattle.rb_rules.specs.Grammar.DerivesRescues.{NoRescue, MoreRescues}
+use Rattle.rb_rules.specs.Grammar.DerivesRaised.{AnyError, SomeErrors}
+use Rattle.rb_rules.specs.Grammar.DerivesEnsure.{NoEnsure, SomeEnsure}
 use Rattle.rb_rules.specs.Grammar.DerivesDeclaration.{ClassOf, ModuleOf, Method, VisibleMethod}
 use Rattle.rb_rules.specs.Grammar.DerivesMethod.{Def}
 use Rattle.rb_rules.specs.Grammar.DerivesParameters.{NoParameters, OpenParameters, EmptyParens, InBrackets}
 use Rattle.rb_rules.specs.Grammar.DerivesParameterList.{LastParameter, MoreParameters}
 use Rattle.rb_rules.specs.Grammar.DerivesParameter.{Required, Optional, RequiredKeyword, OptionalKeyword, BlockParameter}
-use Rattle.rb_grammar.specs.Places.{Each, IfThere, IsPlaced, IsNamePlaced, IsReferencePlaced, DoesPieceStand, DoesPairStand, DoesArmStand, DoesWhenStand, DoesParameterStand, StandsAt, TreesStandAtTokens}
+use Rattle.rb_grammar.specs.Places.{Each, IfThere, IsPlaced, IsNamePlaced, IsReferencePlaced, DoesPieceStand, DoesPairStand, DoesArmStand, DoesWhenStand, DoesRescueStand, DoesGuardedStand, DoesParameterStand, StandsAt, TreesStandAtTokens}
 use Rattle.rb_grammar.proofs.Steps.{Within, within-token as push, within-more as go}
 use Rattle.rb_grammar.proofs.Placed as node
 use Rattle.rb_grammar.proofs.Placed.{each-last, each-weaker, each-end, stay, past, one-of, Ends, Begins, ends-behind, ends-of, begins-at, begins-to, begins-from, begins-across, Stood, Ended, Argued, Suffixed as SuffixEnded, Arguments, Blocked, BlockEnded, ended, all-ended, all-argued, if-ended, argued, placed, token-placed}
@@ -92,6 +100,10 @@ then-word (LineWord s t _ _ _) = push s (push t stay)
 end-of : {xs ys : List Token} → DerivesEnd xs ys → Within xs ys
 end-of (NoComma _ _ g) = gap g
 end-of (LastComma c _ _ _ g) = push c (gap g)
+
+parted : {before : Tree} {xs ys : List Token} → Parted before xs ys → Within xs ys
+parted (BehindNothing _) = stay
+parted (BehindSeparator _ t _ _) = push t stay
 
 own : {b : Bool} {xs ys : List Token} → Owner b xs ys → Within xs ys
 own (Other _) = stay
@@ -159,6 +171,10 @@ module _ (tokens : List Token) where
   names-of : (xs : List Token) (names : List PlacedName) → NamesEnded xs names → Names names
   names-of xs = each-weaker (NameEnded xs) (IsNamePlaced tokens) (λ n h. h.1)
 
+  variable : {n : Option PlacedName} {xs ys : List Token} → RescueVariable n xs ys → In xs → Within xs ys × IfThere (IsNamePlaced tokens) n
+  variable (NoVariable _) i = (stay, tt)
+  variable (Bound a t _ _ _ _) i = (push a (push t stay), token-placed tokens t (past a i))
+
   superclass : {r : Option Reference} {xs ys : List Token} → Superclass r xs ys → In xs → Within xs ys × IfThere (IsReferencePlaced tokens) r
   superclass (NoSuperclass _) i = (stay, tt)
   superclass (Named l n more xs _ _ d) i = let a = path-of d (past l i) in
@@ -203,7 +219,7 @@ module _ (tokens : List Token) where
 
     modified : {free : Bool} {s t : Tree} {xs ys zs : List Token} → DerivesModified free s t xs ys → In zs → Within zs xs → Stood tokens zs s → Within xs ys × Stood tokens zs t
     modified (Unmodified _ _ _) i u h = (stay, h)
-    modified (Modified _ m word s c _ _ _ _ _ d k) i u h =
+    modified (Modified _ m word s c _ _ _ _ _ _ d k) i u h =
         let v = past m u in let a = simple d (go i v) in let b = modified k i (go v a.0) (node.modified tokens i s word c h (ended tokens c v a.1)) in
         (push m (go a.0 b.0), b.1)
 
@@ -353,6 +369,7 @@ module _ (tokens : List Token) where
     primary (Loops _ k d e word c b _ _ _ _ dc _ db _) i =
         let j = past k i in let p = simple dc j in let u = past d p.0 in let q = body db (go j u) in let v = go u q.0 in
         (push k (past e v), node.loops tokens i word c b (across k.span e.span) p.1.1 q.1 (begins-from k e v))
+    primary (Guards _ k e g _ _ _ d _) i = let a = guarded d (past k i) in (push k (past e a.0), node.begins tokens i g (across k.span e.span) a.1 (begins-from k e a.0))
     primary (Cases _ k e t arm arms z _ _ _ _ _ _ dt g da dz _) i =
         let j = past k i in
         let p = subject dt j in let u = go p.0 (gap g) in
@@ -409,6 +426,33 @@ module _ (tokens : List Token) where
     patterns (LastPattern _ _ _ _ d) i = let a = term d i in (a.0, (a.1.1, tt))
     patterns (MorePatterns _ c _ _ _ _ _ d _ m) i = let a = term d i in let u = past c a.0 in let b = patterns m (go i u) in (go u b.0, (a.1.1, b.1))
 
+    guarded : {free : Bool} {g : Guarded Tree} {xs ys : List Token} → DerivesGuarded free g xs ys → In xs → Within xs ys × DoesGuardedStand tokens Stands g
+    guarded (Unrescued _ _ _ _ _ _ d de) i = let a = body d i in let b = ensure-of de (go i a.0) in (go a.0 b.0, (a.1, tt, tt, b.1))
+    guarded (Rescued _ _ _ _ _ _ _ _ _ _ _ d dr dz de) i =
+        let a = body d i in
+        let b = rescues dr (go i a.0) in let u = go a.0 b.0 in
+        let c = else-of dz (go i u) in let v = go u c.0 in
+        let e = ensure-of de (go i v) in
+        (go v e.0, (a.1, b.1, c.1, e.1))
+
+    rescues : {free : Bool} {before : Tree} {rs : List (Rescue Tree)} {xs ys : List Token} → DerivesRescues free before rs xs ys → In xs → Within xs ys × Each (DoesRescueStand tokens Stands) rs
+    rescues (NoRescue _ _ _) i = (stay, tt)
+    rescues (MoreRescues _ k _ _ _ _ _ _ _ _ _ _ _ _ p _ dr dv th db m) i =
+        let u = past k (parted p) in
+        let a = raised dr (go i u) in let v = go u a.0 in
+        let b = variable dv (go i v) in let w = go (go v b.0) (then-word th) in
+        let c = body db (go i w) in let x = go w c.0 in
+        let r = rescues m (go i x) in
+        (go x r.0, ((a.1, b.1, c.1), r.1))
+
+    raised : {free : Bool} {ps : List Tree} {xs ys : List Token} → DerivesRaised free ps xs ys → In xs → Within xs ys × Each Stands ps
+    raised (AnyError _ _) i = (stay, tt)
+    raised (SomeErrors _ _ _ _ d) i = patterns d i
+
+    ensure-of : {free : Bool} {t : Option Tree} {xs ys : List Token} → DerivesEnsure free t xs ys → In xs → Within xs ys × IfThere Stands t
+    ensure-of (NoEnsure _ _) i = (stay, tt)
+    ensure-of (SomeEnsure _ k _ _ _ _ d) i = let a = body d (past k i) in (push k a.0, a.1)
+
     declaration : {at : Site} {t : Tree} {xs ys : List Token} → DerivesDeclaration at t xs ys → In xs → Within xs ys × Stood tokens xs t
     declaration (ClassOf _ k s e path r b xs _ _ _ _ dp dr _ db _) i =
         let j = past k i in
@@ -428,7 +472,7 @@ module _ (tokens : List Token) where
         let u = own o in
         let q = name-of n (go j u) in let v = go u q.0 in
         let r = parameters dp (go j v) in let x = go v r.0 in
-        let z = body db (go j x) in let y = go x z.0 in
+        let z = guarded db (go j x) in let y = go x z.0 in
         (push k (past e y), node.method tokens i visible self w s ps b (across (front_span k front) e.span) q.1 r.1 z.1 (front-begins k e front xs ys y))
 
     parameters : {ps : List (Parameter Tree)} {xs ys : List Token} → DerivesParameters ps xs ys → In xs → Within xs ys × Each (DoesParameterStand tokens Stands) ps
@@ -442,11 +486,11 @@ module _ (tokens : List Token) where
     parameter-list (MoreParameters _ c _ _ _ _ _ _ d _ g m) i = let a = parameter-of d i in let u = go (past c a.0) (gap-in g) in let b = parameter-list m (go i u) in (go u b.0, (a.1, b.1))
 
     parameter-of : {p : Parameter Tree} {xs ys : List Token} → DerivesParameter p xs ys → In xs → Within xs ys × DoesParameterStand tokens Stands p
-    parameter-of (Required t _ _ _) i = (push t stay, token-placed tokens t i)
+    parameter-of (Required t _ _ _) i = (push t stay, (token-placed tokens t i, tt))
     parameter-of (Optional t e _ _ _ _ _ _ d) i = let a = term d (past e (past t i)) in (push t (push e a.0), (token-placed tokens t i, a.1.1))
-    parameter-of (RequiredKeyword l _ _ _) i = (push l stay, token-placed tokens l i)
+    parameter-of (RequiredKeyword l _ _ _) i = (push l stay, (token-placed tokens l i, tt))
     parameter-of (OptionalKeyword l _ _ _ _ _ d) i = let a = term d (past l i) in (push l a.0, (token-placed tokens l i, a.1.1))
-    parameter-of (BlockParameter a t _ _ _ _) i = (push a (push t stay), token-placed tokens t (past a i))
+    parameter-of (BlockParameter a t _ _ _ _) i = (push a (push t stay), (token-placed tokens t (past a i), tt))
 
 -- ---- the law
 

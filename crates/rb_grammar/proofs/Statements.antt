@@ -1,5 +1,5 @@
 -- Statements that are read derive, and bodies of them.
-use Rattle.std.proofs.Common.{◌≡◌, ℕ, zero, suc, Bool, true, false, ◌&&◌, if◌then◌else◌, List, [], ◌∷◌, ◌++◌, Option, Some, None, inl, inr, refl, sym, ap, subst, ◌∙◌, append_assoc, append-nil}
+use Rattle.std.proofs.Common.{◌≡◌, ℕ, zero, suc, Bool, true, false, not, ◌&&◌, if◌then◌else◌, List, [], ◌∷◌, ◌++◌, Option, Some, None, inl, inr, refl, sym, ap, subst, ◌∙◌, append_assoc, append-nil}
 use Rattle.srb_terms.specs.declared.span.Span.{Span}
 use Rattle.rb_tree.specs.Tokens.{shape_of}
 use Rattle.rb_tree.specs.Trees.{span_of}
@@ -9,7 +9,9 @@ use Rattle.rb_tree.specs.declared.syntax.Binary.{Binary}
 use Rattle.rb_tree.specs.declared.syntax.Block.{Block}
 use Rattle.rb_tree.specs.declared.syntax.Jump.{Jump}
 use Rattle.rb_tree.specs.declared.syntax.Modifier.{Modifier}
-use Rattle.rb_tree.specs.declared.syntax.Tree.{Tree}
+use Rattle.rb_tree.specs.declared.syntax.Modifier.TheVariants as modifier
+use Rattle.rb_tree.specs.declared.syntax.Tree.{Tree, out-Tree}
+use Rattle.rb_tree.specs.declared.syntax.Tree.TheOpen.{Tree-F}
 use Rattle.rb_tree.specs.declared.syntax.Tree.TheVariants as tree
 use Rattle.rb_tree.specs.declared.syntax.Tree.TheVariants.{rolls-Assign, rolls-OperatorAssign, rolls-Command, rolls-Jump, rolls-Modified}
 use Rattle.rb_tree.specs.declared.token.Token.{Token}
@@ -23,13 +25,14 @@ use Rattle.rb_expr.specs.Reading.{Parser, start_of, sees, peek, skip_separators}
 use Rattle.rb_expr.specs.Lists.{end_with, end_of_argument}
 use Rattle.rb_expr.specs.Shapes.{begins_value, begins_statement, has_value, has_prefix, jump_of, modifier_of, assigning_of}
 use Rattle.rb_expr.specs.Operators as operators
-use Rattle.rb_expr.specs.Statements.{ending_of, is_target, is_plain_target, is_callee, begin_arguments, other_follower, operator_follower, follower_by, follower_of, assigned, operator_assigned, command, followed_by, followed, from_operand, jump_value, simple_by, simple, modified, modifiers_by, modifiers_from, modifiers, statement, body_from, body_start, statements}
+use Rattle.rb_expr.specs.Statements.{ending_of, is_target, is_plain_target, is_callee, begin_arguments, other_follower, operator_follower, follower_by, follower_of, assigned, operator_assigned, command, followed_by, followed, from_operand, jump_value, simple_by, simple, modified, modifiers_by, modifiers_from, modifiers, may_modify, allowed, modifier_behind, ended, statement, body_from, body_start, statements}
 use Rattle.rb_expr.specs.Statements as spec
 use Rattle.rb_rules.specs.Tokens.{Is, IsOneOf, StartsWith}
 use Rattle.rb_rules.specs.Spans.{across, last_of, argument_span, block_or}
-use Rattle.rb_rules.specs.Forms.{Site, is_open, ASSIGNMENTS, MODIFIERS, NO_COMMAND, AreOrdered}
-use Rattle.rb_rules.specs.Grammar.{Gap, IsRow, MODIFIER_WORDS, JUMP_WORDS, span_of_arguments, DerivesBody, DerivesMore, DerivesStatement, DerivesModified, DerivesSimple, DerivesValue, DerivesTarget, DerivesCallee, DerivesArguments, DerivesPrefixed}
+use Rattle.rb_rules.specs.Forms.{Site, is_open, ASSIGNMENTS, MODIFIERS, NO_COMMAND, is_begin_at, is_begin, MayModify, AreOrdered}
+use Rattle.rb_rules.specs.Grammar.{Gap, IsRow, MODIFIER_WORDS, JUMP_WORDS, body_of, span_of_arguments, Parted, DerivesBody, DerivesMore, DerivesStatement, DerivesModified, DerivesSimple, DerivesValue, DerivesTarget, DerivesCallee, DerivesArguments, DerivesPrefixed}
 use Rattle.rb_rules.specs.Grammar.Gap.{Closed, Wide}
+use Rattle.rb_rules.specs.Grammar.Parted.{BehindNothing, BehindSeparator}
 use Rattle.rb_rules.specs.Grammar.DerivesBody.{NoStatement, Statements}
 use Rattle.rb_rules.specs.Grammar.DerivesMore.{NoMore, Another}
 use Rattle.rb_rules.specs.Grammar.DerivesStatement.{Simply}
@@ -85,6 +88,38 @@ modifying shape.Unless = inr (inl (refl, refl))
 modifying shape.While = inr (inr (inl (refl, refl)))
 modifying shape.Until = inr (inr (inr (inl (refl, refl))))
 modifying s = tt
+
+-- a modifier that may stand after the statement
+abbrev Allowing : Tree → Shape → Option Modifier → Type 0
+Allowing inner s None = Unit {0}
+Allowing inner s (Some word) = IsRow MODIFIER_WORDS s word × MayModify word inner
+
+same-begin-at : (r : Tree-F Tree) → spec.is_begin_at r ≡ is_begin_at r
+same-begin-at (Tree-F.Begin guarded span) = refl
+same-begin-at r = refl
+
+same-begin : (t : Tree) → spec.is_begin t ≡ is_begin t
+unfolding spec.is_begin is_begin
+same-begin t = same-begin-at (out-Tree t)
+
+not-true : (b : Bool) → not b ≡ true → b ≡ false
+not-true true e = absurd (cc)
+not-true false e = refl
+
+may : (word : Modifier) (inner : Tree) → may_modify word inner ≡ true → MayModify word inner
+unfolding may_modify
+may modifier.If inner e = inl refl
+may modifier.Unless inner e = inl refl
+may modifier.While inner e = inr (sym (same-begin inner) ∙ not-true (spec.is_begin inner) e)
+may modifier.Until inner e = inr (sym (same-begin inner) ∙ not-true (spec.is_begin inner) e)
+
+allowing : (inner : Tree) (s : Shape) (o : Option Modifier) → Modifying s o → Allowing inner s (allowed inner o)
+allowing inner s None row = tt
+allowing inner s (Some word) row = go (may_modify word inner) refl
+  where
+    go : (b : Bool) → may_modify word inner ≡ b → Allowing inner s (if b then Some word else None)
+    go true e = (row, may word inner e)
+    go false e = tt
 
 -- the test fails on each of the list
 abbrev AllFail : (Shape → Bool) → List Shape → Type 0
@@ -255,7 +290,7 @@ module _ (nested : Form → Bool → Parser Tree) (ih : Sound nested) (turns : �
   abbrev WithModifiers : Tree → List Token → Tree → List Token → Type 0
   WithModifiers inner xs t ys = DerivesModified free inner t xs ys × Within xs ys × ((span_of t).start ≡ (span_of inner).start)
 
-  modifiers-by : (n : ℕ) → ((inner : Tree) (xs : List Token) → Holds (modifiers_from nested turns free n inner xs) (WithModifiers inner xs)) → (inner : Tree) (m : Token) (ms : List Token) (word : Option Modifier) → Modifying (shape_of m.kind) word →
+  modifiers-by : (n : ℕ) → ((inner : Tree) (xs : List Token) → Holds (modifiers_from nested turns free n inner xs) (WithModifiers inner xs)) → (inner : Tree) (m : Token) (ms : List Token) (word : Option Modifier) → Allowing inner (shape_of m.kind) word →
       Holds (modifiers_by nested turns free (modifiers_from nested turns free n) inner word (m ∷ ms)) (WithModifiers inner (m ∷ ms))
   unfolding modified operators.across
   modifiers-by n again inner m ms None row = answered (WithModifiers inner (m ∷ ms)) inner (m ∷ ms) (Unmodified _ _ _, within-self _, refl)
@@ -264,13 +299,13 @@ module _ (nested : Form → Bool → Parser Tree) (ih : Sound nested) (turns : �
       (λ longer ps h. weaker (again longer ps) (λ t ys k.
       let d = subst (λ l. DerivesModified free l t ps ys) h.1 k.0 in
       let s = subst (λ l. (span_of t).start ≡ (span_of l).start) h.1 k.2 in
-      (Modified _ _ _ _ _ _ _ _ _ row h.2 d, within-token m (within-more h.3 k.1), s ∙ starts _ _ _ (rolls-Modified inner word h.0 (across (span_of inner) (span_of h.0))) refl)))
+      (Modified _ _ _ _ _ _ _ _ _ row.0 row.1 h.2 d, within-token m (within-more h.3 k.1), s ∙ starts _ _ _ (rolls-Modified inner word h.0 (across (span_of inner) (span_of h.0))) refl)))
 
   modifiers-from : (n : ℕ) (inner : Tree) (xs : List Token) → Holds (modifiers_from nested turns free n inner xs) (WithModifiers inner xs)
-  unfolding modifiers_from
+  unfolding modifiers_from modifier_behind
   modifiers-from zero inner xs = refused _ _
   modifiers-from (suc n) inner [] = answered (WithModifiers inner []) inner [] (Unmodified _ _ _, within-self _, refl)
-  modifiers-from (suc n) inner (m ∷ ms) = modifiers-by n (modifiers-from n) inner m ms (modifier_of (Some (shape_of m.kind))) (modifying (shape_of m.kind))
+  modifiers-from (suc n) inner (m ∷ ms) = modifiers-by n (modifiers-from n) inner m ms (allowed inner (modifier_of (Some (shape_of m.kind)))) (allowing inner (shape_of m.kind) (modifier_of (Some (shape_of m.kind))) (modifying (shape_of m.kind)))
 
   abbrev pub Statement : Site → List Token → Tree → List Token → Type 0
   Statement at all t ys = DerivesStatement at free t all ys × Within all ys × Starts t all
@@ -290,10 +325,18 @@ module _ (nested : Form → Bool → Parser Tree) (ih : Sound nested) (turns : �
   last-end s [] = refl
   last-end s (t ∷ ss) = last-end t ss
 
+  -- before a `rescue` the last of these separators may be left
+  abbrev Divided : List Token → List Token → Type 0
+  Divided rs ys = sees shape.Rescue ys ≡ true → (t : Token) × Is shape.Separator t × Gap rs (t ∷ ys)
+
+  last-separator : (t : Token) (ts zs : List Token) → Is shape.Separator t → Gap ts zs → (u : Token) × Is shape.Separator u × Gap (t ∷ ts) (u ∷ zs)
+  last-separator t ts zs is (Closed _) = (t, is, Closed _)
+  last-separator t ts zs is (Wide u us _ is2 g) = let r = last-separator u us zs is2 g in (r.0, r.1, Wide _ _ _ is r.2)
+
   -- statements from here on, and what is left behind them and separators
   abbrev Row : Site → List Token → List Tree → List Token → Type 0
   Row at xs [] ys = (begins_statement xs ≡ false) × (xs ≡ ys)
-  Row at xs (s ∷ ss) ys = (qs rs : List Token) × (begins_statement xs ≡ true) × DerivesStatement at free s xs qs × DerivesMore at free ss qs rs × Gap rs ys × Starts s xs
+  Row at xs (s ∷ ss) ys = (qs rs : List Token) × (begins_statement xs ≡ true) × DerivesStatement at free s xs qs × DerivesMore at free ss qs rs × Gap rs ys × Starts s xs × Divided rs ys
 
   abbrev Rest : Site → ℕ → ℕ → List Tree → List Token → Tree → List Token → Type 0
   Rest at start end found xs t ys = (ss : List Tree) × (t ≡ tree.Body (found ++ ss) (record { start = start; end = end_by end ss })) × Row at xs ss ys × Within xs ys
@@ -303,12 +346,12 @@ module _ (nested : Form → Bool → Parser Tree) (ih : Sound nested) (turns : �
   parted [] e = absurd (cc)
   parted (t ∷ ts) e = (t, ts, refl, same _ _ e, subst (λ zs. Gap ts zs) (ap (λ b. if b then skip_separators ts else t ∷ ts) (sym e)) (gap ts).0)
 
-  row-more : (at : Site) (t : Token) (ts zs : List Token) → Is shape.Separator t → Gap ts zs → (ss : List Tree) (ys : List Token) → Row at zs ss ys → (rs : List Token) × DerivesMore at free ss (t ∷ ts) rs × Gap rs ys
-  row-more at t ts zs is g [] ys h = (t ∷ ts, NoMore _ _ _, Wide _ _ _ is (subst (λ us. Gap ts us) h.1 g))
-  row-more at t ts zs is g (s ∷ ss) ys h = (h.1, Another _ _ _ _ _ _ _ _ _ is g h.3 h.4, h.5)
+  row-more : (at : Site) (t : Token) (ts zs : List Token) → Is shape.Separator t → Gap ts zs → (ss : List Tree) (ys : List Token) → Row at zs ss ys → (rs : List Token) × DerivesMore at free ss (t ∷ ts) rs × Gap rs ys × Divided rs ys
+  row-more at t ts zs is g [] ys h = let g' : Gap ts ys = subst (λ us. Gap ts us) h.1 g in (t ∷ ts, NoMore _ _ _, Wide _ _ _ is g', λ e. last-separator t ts ys is g')
+  row-more at t ts zs is g (s ∷ ss) ys h = (h.1, Another _ _ _ _ _ _ _ _ _ is g h.3 h.4, h.5, h.7)
 
   body-from : (at : Site) (start end n : ℕ) (found : List Tree) (xs : List Token) → Holds (body_from nested turns free (is_open at) start end n found xs) (Rest at start end found xs)
-  unfolding body_from
+  unfolding body_from ended
   body-from at start end zero found xs = refused _ _
   body-from at start end (suc n) found xs = choosing (begins_statement xs)
       (λ e. step (statement-holds at xs) (λ s qs h. choosing (sees shape.Separator qs)
@@ -317,23 +360,24 @@ module _ (nested : Form → Bool → Parser Tree) (ih : Sound nested) (turns : �
       let r = row-more at p.0 p.1 (skip_separators qs) p.3 p.4 m.0 ys m.2 in (
         s ∷ m.0,
         m.1 ∙ ap (λ all. tree.Body all (record { start = start; end = end_by (span_of s).end m.0 })) (append_assoc found (s ∷ []) m.0),
-        (qs, r.0, e, h.0, subst (λ us. DerivesMore at free m.0 us r.0) (sym p.2) r.1, r.2, h.2),
+        (qs, r.0, e, h.0, subst (λ us. DerivesMore at free m.0 us r.0) (sym p.2) r.1, r.2, h.2, r.3),
         within-more h.1 (within-more (gap qs).1 m.3),
       )))
-      (λ last. answered (Rest at start end found xs) _ qs (s ∷ [], refl, (qs, qs, e, h.0, NoMore _ _ _, Closed _, h.2), h.1))))
+      (λ last. choosing (sees shape.Rescue qs) (λ bare. refused _ _)
+      (λ none. answered (Rest at start end found xs) _ qs (s ∷ [], refl, (qs, qs, e, h.0, NoMore _ _ _, Closed _, h.2, λ next. absurd (let f : false ≡ true = sym none ∙ next in cc)), h.1)))))
       (λ e. answered (Rest at start end found xs) _ xs ([], ap (λ all. tree.Body all (record { start = start; end = end })) (sym (append-nil found)), (e, refl), within-self _))
 
   abbrev pub Body : Site → List Token → Tree → List Token → Type 0
-  Body at all t ys = DerivesBody at free t all ys × Within all ys
+  Body at all t ys = DerivesBody at free t all ys × Within all ys × (sees shape.Rescue ys ≡ true → (zs : List Token) × DerivesBody at free t all zs × Parted t zs ys)
 
   body-made : (at : Site) (all xs : List Token) → Gap all xs → Within all xs → (ss : List Tree) (ys : List Token) → Row at xs ss ys → Within xs ys → Body at all (tree.Body ss (record { start = body_start xs; end = end_by 0 ss })) ys
-  body-made at all xs g w [] ys h v = (subst (λ b. DerivesBody at free (tree.Body [] (record { start = if b then start_of xs else 0; end = 0 })) all ys) (sym h.0) (NoStatement _ _ _ _ (subst (λ zs. Gap all zs) h.1 g)), within-more w v)
-  body-made at all xs g w (s ∷ ss) ys h v = (
-    subst (λ b. DerivesBody at free (tree.Body (s ∷ ss) (record { start = if b then start_of xs else 0; end = end_by (span_of s).end ss })) all ys) (sym h.2)
-        (subst (λ n. DerivesBody at free (tree.Body (s ∷ ss) (record { start = n; end = end_by (span_of s).end ss })) all ys) h.6
-        (subst (λ n. DerivesBody at free (tree.Body (s ∷ ss) (record { start = (span_of s).start; end = n })) all ys) (sym (last-end s ss)) (Statements _ _ _ _ _ _ _ _ _ g h.3 h.4 h.5))),
-    within-more w v,
-  )
+  body-made at all xs g w [] ys h v = let d : DerivesBody at free (body_of []) all ys = NoStatement _ _ _ _ (subst (λ zs. Gap all zs) h.1 g) in
+      subst (λ b. Body at all (tree.Body [] (record { start = if b then start_of xs else 0; end = 0 })) ys) (sym h.0) (d, within-more w v, λ e. (ys, d, BehindNothing _))
+  body-made at all xs g w (s ∷ ss) ys h v =
+      subst (λ b. Body at all (tree.Body (s ∷ ss) (record { start = if b then start_of xs else 0; end = end_by (span_of s).end ss })) ys) (sym h.2)
+      (subst (λ n. Body at all (tree.Body (s ∷ ss) (record { start = n; end = end_by (span_of s).end ss })) ys) h.6
+      (subst (λ n. Body at all (tree.Body (s ∷ ss) (record { start = (span_of s).start; end = n })) ys) (sym (last-end s ss))
+      (Statements _ _ _ _ _ _ _ _ _ g h.3 h.4 h.5, within-more w v, λ e. let l = h.7 e in (l.0 ∷ ys, Statements _ _ _ _ _ _ _ _ _ g h.3 h.4 l.2, BehindSeparator _ _ _ l.1))))
 
   pub body-holds : (at : Site) (xs : List Token) → Holds (spec.body nested turns free (is_open at) xs) (Body at xs)
   unfolding spec.body statements

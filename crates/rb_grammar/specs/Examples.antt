@@ -1,5 +1,5 @@
 -- A few programs with their trees.
-use Rattle.std.specs.Prelude.{ℕ, ◌+◌, List, [], ◌∷◌, codes, Some, None}
+use Rattle.std.specs.Prelude.{ℕ, ◌+◌, false, List, [], ◌∷◌, codes, Some, None}
 use Rattle.srb_terms.specs.declared.span.Span.{Span}
 use Rattle.rb_tree.specs.declared.syntax.Argument.TheVariants as argument
 use Rattle.rb_tree.specs.declared.syntax.Binary.TheVariants as binary
@@ -62,6 +62,28 @@ CLASS_TREE = tree.Body
     (tree.Body (tree.Assign (tree.Constant (codes "X") (from_to 9 10)) (digit (codes "1") 13) (from_to 9 14) ∷ []) (from_to 9 14)) (from_to 0 19) ∷ [])
     (from_to 0 19)
 
+-- `def f; a; rescue A => e; b; else; c; ensure; d; end`: each word of a guard has a body of its own
+abbrev pub GUARDED : List Token
+GUARDED =
+    token kind.Def 0 3 ∷ token (kind.Identifier (codes "f")) 4 5 ∷ token kind.Separator 5 6 ∷ token (kind.Identifier (codes "a")) 7 8 ∷ token kind.Separator 8 9
+    ∷ token kind.Rescue 10 16 ∷ token (kind.Constant (codes "A")) 17 18 ∷ token kind.Arrow 19 21 ∷ token (kind.Identifier (codes "e")) 22 23 ∷ token kind.Separator 23 24
+    ∷ token (kind.Identifier (codes "b")) 25 26 ∷ token kind.Separator 26 27 ∷ token kind.Else 28 32 ∷ token kind.Separator 32 33 ∷ token (kind.Identifier (codes "c")) 34 35
+    ∷ token kind.Separator 35 36 ∷ token kind.Ensure 37 43 ∷ token kind.Separator 43 44 ∷ token (kind.Identifier (codes "d")) 45 46 ∷ token kind.Separator 46 47 ∷ token kind.End 48 51 ∷ []
+
+-- a body of one name
+abbrev named : List ℕ → ℕ → Tree
+named w a = tree.Body (tree.Name w (from_to a (a + 1)) ∷ []) (from_to a (a + 1))
+
+abbrev pub GUARDED_TREE : Tree
+GUARDED_TREE = tree.Body
+    (tree.Def None false (codes "f") (from_to 4 5) [] (record {
+      body = named (codes "a") 7;
+      rescues = record { patterns = tree.Constant (codes "A") (from_to 17 18) ∷ []; variable = Some (record { name = codes "e"; span = from_to 22 23 }); body = named (codes "b") 25 } ∷ [];
+      otherwise = Some (named (codes "c") 34);
+      ensure = Some (named (codes "d") 45);
+    }) (from_to 0 51) ∷ [])
+    (from_to 0 51)
+
 -- `a.b(1)`: a call begins at its dot and ends at its bracket; the argument is the given tree
 abbrev pub CALL : List Token
 CALL = token (kind.Identifier (codes "a")) 0 1 ∷ token kind.Dot 1 2 ∷ token (kind.Identifier (codes "b")) 2 3 ∷ token kind.OpenParen 3 4 ∷ token (kind.Whole (codes "1")) 4 5 ∷ token kind.CloseParen 5 6 ∷ []
@@ -90,6 +112,9 @@ JumpDerives = Derives JUMP JUMP_TREE
 
 abbrev pub ClassDerives : Type 0
 ClassDerives = Derives CLASS CLASS_TREE
+
+abbrev pub GuardedDerives : Type 0
+GuardedDerives = Derives GUARDED GUARDED_TREE
 
 abbrev pub CallDerives : Type 0
 CallDerives = Derives CALL (call_tree (digit (codes "1") 4))

@@ -19,7 +19,8 @@ use Rattle.rb_tree.specs.declared.syntax.When.{When}
 use Rattle.rb_tree.specs.declared.syntax.PlacedName.{PlacedName}
 use Rattle.rb_tree.specs.declared.syntax.Reference.{Reference}
 use Rattle.rb_tree.specs.declared.syntax.Parameter.{Parameter}
-use Rattle.rb_tree.specs.declared.syntax.Parameter.TheVariants as parameter
+use Rattle.rb_tree.specs.declared.syntax.Guarded.{Guarded}
+use Rattle.rb_tree.specs.declared.syntax.Rescue.{Rescue}
 use Rattle.rb_rules.specs.Tokens.{IsOneOf}
 use Rattle.rb_rules.specs.Grammar.{Derives}
 
@@ -91,11 +92,13 @@ module _ (tokens : List Token) where
     DoesWhenStand w = Each Stands w.patterns × Stands w.body
 
     abbrev pub DoesParameterStand : Parameter X → Type 0
-    DoesParameterStand (parameter.Required name span) = IsPlaced tokens span
-    DoesParameterStand (parameter.Optional name span default) = IsPlaced tokens span × Stands default
-    DoesParameterStand (parameter.RequiredKeyword name span) = IsPlaced tokens span
-    DoesParameterStand (parameter.OptionalKeyword name span default) = IsPlaced tokens span × Stands default
-    DoesParameterStand (parameter.Block name span) = IsPlaced tokens span
+    DoesParameterStand p = IsPlaced tokens p.span × IfThere Stands p.default
+
+    abbrev pub DoesRescueStand : Rescue X → Type 0
+    DoesRescueStand r = Each Stands r.patterns × IfThere IsNamePlaced r.variable × Stands r.body
+
+    abbrev pub DoesGuardedStand : Guarded X → Type 0
+    DoesGuardedStand g = Stands g.body × Each DoesRescueStand g.rescues × IfThere Stands g.otherwise × IfThere Stands g.ensure
 
     -- a node
     abbrev pub DoesNodeStand : Tree-F X → Type 0
@@ -135,11 +138,12 @@ module _ (tokens : List Token) where
     DoesNodeStand (Tree-F.While test condition body span) = IsPlaced tokens span × Stands condition × Stands body
     DoesNodeStand (Tree-F.Case subject arms otherwise span) =
         IsPlaced tokens span × IfThere Stands subject × Each DoesWhenStand arms × IfThere Stands otherwise
+    DoesNodeStand (Tree-F.Begin guarded span) = IsPlaced tokens span × DoesGuardedStand guarded
     DoesNodeStand (Tree-F.Class path superclass body span) =
         IsPlaced tokens span × Each IsNamePlaced path × IfThere IsReferencePlaced superclass × Stands body
     DoesNodeStand (Tree-F.Module path body span) = IsPlaced tokens span × Each IsNamePlaced path × Stands body
-    DoesNodeStand (Tree-F.Def visibility own name name_span parameters body span) =
-        IsPlaced tokens span × IsPlaced tokens name_span × Each DoesParameterStand parameters × Stands body
+    DoesNodeStand (Tree-F.Def visibility own name name_span parameters guarded span) =
+        IsPlaced tokens span × IsPlaced tokens name_span × Each DoesParameterStand parameters × DoesGuardedStand guarded
 
   -- each node of the tree stands at the tokens
   unfoldable pub StandsAt : Tree → Type 0

@@ -6,7 +6,7 @@
 //! tokens.
 #![tactic(auto)]
 
-ghost use Rattle.rb_grammar.specs.Examples.{CallDerives, ClassDerives, JumpDerives, LateArgumentStandsNot, LateStandsNot, PowerDerives, ReversedArgumentStandsNot, SumDerives};
+ghost use Rattle.rb_grammar.specs.Examples.{CallDerives, ClassDerives, GuardedDerives, JumpDerives, LateArgumentStandsNot, LateStandsNot, PowerDerives, ReversedArgumentStandsNot, SumDerives};
 ghost use Rattle.rb_grammar.specs.Laws.{BodiesDerive, FormsDerive, ProgramsDerive, StatementsDerive, TermsDerive};
 ghost use Rattle.rb_grammar.specs.Places.{TreesStandAtTokens, TreesStandByNodes};
 
@@ -40,6 +40,7 @@ pub fn examples_derive()
     ensures power { PowerDerives }
     ensures jump { JumpDerives }
     ensures class { ClassDerives }
+    ensures guarded { GuardedDerives }
     ensures call { CallDerives }
 {}
 

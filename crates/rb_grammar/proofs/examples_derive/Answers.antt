@@ -14,5 +14,8 @@ returns-clause-jump c = examples.2
 pub returns-clause-class : goal.returns-clause-class
 returns-clause-class c = examples.3
 
+pub returns-clause-guarded : goal.returns-clause-guarded
+returns-clause-guarded c = examples.4
+
 pub returns-clause-call : goal.returns-clause-call
 returns-clause-call c = call-derives
