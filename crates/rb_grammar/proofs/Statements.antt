@@ -98,7 +98,7 @@ same-begin-at : (r : Tree-F Tree) → spec.is_begin_at r ≡ is_begin_at r
 same-begin-at (Tree-F.Begin guarded span) = refl
 same-begin-at r = refl
 
-same-begin : (t : Tree) → spec.is_begin t ≡ is_begin t
+pub same-begin : (t : Tree) → spec.is_begin t ≡ is_begin t
 unfolding spec.is_begin is_begin
 same-begin t = same-begin-at (out-Tree t)
 

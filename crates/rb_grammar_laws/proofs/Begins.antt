@@ -7,7 +7,7 @@ use Rattle.rb_tree.specs.declared.token.Token.{Token}
 use Rattle.rb_tree.specs.declared.token.Shape.TheVariants as shape
 use Rattle.rb_rules.specs.Tokens.{IsOneOf, StartsWith}
 use Rattle.rb_rules.specs.Grammar.{SIGNS, PREFIXES, JUMP_WORDS, BRANCH_WORDS, LOOP_WORDS, DerivesPrimary, DerivesOperand, DerivesPrefixed, DerivesLevel, DerivesTerm, DerivesTarget, DerivesCallee, DerivesValue, DerivesSimple}
-use Rattle.rb_rules.specs.Grammar.DerivesPrimary.{WholeNumber, FloatNumber, SignedWhole, SignedFloat, String, SymbolName, InstanceName, ConstantName, FromTop, SelfPlace, NilPlace, TruePlace, FalsePlace, NameAlone, CallWithBrackets, CallWithBlock, Yields, Supers, EmptyArray, SomeArray, EmptyHash, SomeHash, InParens, Branches, Loops, Cases}
+use Rattle.rb_rules.specs.Grammar.DerivesPrimary.{WholeNumber, FloatNumber, SignedWhole, SignedFloat, String, SymbolName, InstanceName, ConstantName, FromTop, SelfPlace, NilPlace, TruePlace, FalsePlace, NameAlone, CallWithBrackets, CallWithBlock, Yields, Supers, EmptyArray, SomeArray, EmptyHash, SomeHash, InParens, Branches, Loops, Guards, Cases}
 use Rattle.rb_rules.specs.Grammar.DerivesOperand.{Bare, Suffixed}
 use Rattle.rb_rules.specs.Grammar.DerivesPrefixed.{Prefixed, Posted}
 use Rattle.rb_rules.specs.Grammar.DerivesLevel.{Tighter, FromLeft, Once, Negated, Raised, Plainly}
@@ -52,6 +52,7 @@ primary-begins free p last xs ys (SomeHash _ o c pairs _ ps qs _ is g d e closes
 primary-begins free p last xs ys (InParens _ o c body _ _ is d closes) = inl (any-of OPERANDS shape.OpenParen o refl is)
 primary-begins free p last xs ys (Branches _ k e word c body arms otherwise _ ps qs rs us _ row d h b a only o z) = inl (by-row BRANCH_WORDS (λ s w. IsOneOf OPERANDS s) (in-list OPERANDS shape.If refl, (in-list OPERANDS shape.Unless refl, tt)) _ _ row)
 primary-begins free p last xs ys (Loops _ k d e word c body _ ps _ row h d2 b z) = inl (by-row LOOP_WORDS (λ s w. IsOneOf OPERANDS s) (in-list OPERANDS shape.While refl, (in-list OPERANDS shape.Until refl, tt)) _ _ row)
+primary-begins free p last xs ys (Guards _ k e guarded _ _ is d end) = inl (any-of OPERANDS shape.Begin k refl is)
 primary-begins free p last xs ys (Cases _ k e subject arm arms otherwise _ ps qs rs _ is d g w o end) = inl (any-of OPERANDS shape.Case k refl is)
 
 pub operand-begins : (free : Bool) (p : Tree) (ss : List (Suffix Tree)) (last : Token) (xs ys : List Token) → DerivesOperand free p ss last xs ys → BeginsOperand xs
@@ -128,3 +129,17 @@ pub body-begins : (free : Bool) (t : Tree) (xs ys : List Token) → DerivesBody 
 unfolding same_shape
 body-begins free t xs ys (NoStatement _ _ _ _ g) ends = gap-bodies xs ys g (ends-wider BODY_ENDS BODIES refl false ys (ends-taking-none BODY_ENDS free ys ends))
 body-begins free t xs ys (Statements _ _ s ss _ ps qs rs _ g d more h) ends = gap-bodies xs ps g (simple-bodies ps (statement-begins free s ps qs d))
+
+rescue-bodies : (xs : List Token) → StartsWith (shape.Rescue ∷ []) xs → Ends (shape.Rescue ∷ BODIES) false xs
+unfolding same_shape
+rescue-bodies [] h = absurd h
+rescue-bodies (t ∷ ts) h = (wider (shape.Rescue ∷ []) (shape.Rescue ∷ BODIES) refl _ h, λ e. absurd (cc))
+
+gap-rescue : (xs ys : List Token) → Gap xs ys → Ends (shape.Rescue ∷ BODIES) false ys → Ends (shape.Rescue ∷ BODIES) false xs
+gap-rescue xs ys (Closed _) h = h
+gap-rescue xs ys (Wide t us _ is g) h = (inr (inl is), λ e. absurd (cc))
+
+pub rescued-begins : (free : Bool) (t : Tree) (xs ys : List Token) → DerivesBody Inside free t xs ys → StartsWith (shape.Rescue ∷ []) ys → Ends (shape.Rescue ∷ BODIES) false xs
+unfolding same_shape
+rescued-begins free t xs ys (NoStatement _ _ _ _ g) h = gap-rescue xs ys g (rescue-bodies ys h)
+rescued-begins free t xs ys (Statements _ _ s ss _ ps qs rs _ g d more end) h = gap-rescue xs ps g (ends-wider BODIES (shape.Rescue ∷ BODIES) refl false ps (simple-bodies ps (statement-begins free s ps qs d)))

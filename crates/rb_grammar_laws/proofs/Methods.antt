@@ -1,7 +1,8 @@
 -- Methods that derive are read.
-use Rattle.std.proofs.Common.{◌≡◌, ℕ, ◌<◌, Bool, true, false, ◌==◌, if◌then◌else◌, List, [], ◌∷◌, ◌++◌, length, Option, Some, None, Ok, Err, inl, inr, refl, sym, ap, subst, ◌∙◌, codes, arith}
+use Rattle.std.proofs.Common.{◌≡◌, ℕ, zero, suc, ◌<◌, Bool, true, false, ◌==◌, if◌then◌else◌, List, [], ◌∷◌, ◌++◌, length, Option, Some, None, Ok, Err, inl, inr, refl, sym, ap, subst, ◌∙◌, codes, arith}
 use Rattle.srb_terms.specs.declared.span.Span.{Span}
 use Rattle.rb_tree.specs.Tokens.{shape_of, same_shape}
+use Rattle.rb_tree.specs.declared.syntax.Guarded.{Guarded}
 use Rattle.rb_tree.specs.declared.syntax.PlacedName.{PlacedName}
 use Rattle.rb_tree.specs.declared.syntax.Parameter.{Parameter}
 use Rattle.rb_tree.specs.declared.syntax.Tree.{Tree}
@@ -13,24 +14,24 @@ use Rattle.rb_tree.specs.declared.token.TokenKind.TheVariants as kind
 use Rattle.rb_tree.specs.declared.token.Shape.{Shape}
 use Rattle.rb_tree.specs.declared.token.Shape.TheVariants as shape
 use Rattle.rb_expr.specs.Grammar.{parsed}
-use Rattle.rb_expr.specs.Reading.{Outcome, sees, start_of}
-use Rattle.rb_expr.specs.Rules.{body, longest_body}
+use Rattle.rb_expr.specs.Reading.{Outcome, Parser, ◌>>=◌, pure, and_then, sees, start_of}
+use Rattle.rb_expr.specs.Rules.{guarded}
+use Rattle.rb_expr.specs.Branches as branches
+use Rattle.rb_expr.specs.declared.form.Form.TheVariants as form
 use Rattle.rb_expr.specs.Statements as statements
 use Rattle.rb_decl.specs.Methods.{visibility_of, visibility, operator_text, operator_name, plain_name, method_name, own, method_head, defined}
 use Rattle.rb_rules.specs.Tokens.{Is, IsIdentifier}
 use Rattle.rb_rules.specs.Spans.{across}
-use Rattle.rb_rules.specs.Forms.{Inside, METHODS, AreParameters, AreDistinct, names_of_parameters}
-use Rattle.rb_rules.specs.Grammar.{IsRow, VISIBILITIES, front_span, MethodName, Owner, DerivesBody, DerivesParameters, DerivesMethod}
+use Rattle.rb_rules.specs.Forms.{METHODS, AreParameters, AreDistinct, names_of_parameters}
+use Rattle.rb_rules.specs.Grammar.{IsRow, VISIBILITIES, front_span, MethodName, Owner, DerivesGuarded, DerivesParameters, DerivesMethod}
 use Rattle.rb_rules.specs.Grammar.MethodName.{Plain, Writer, Capital, Operator}
 use Rattle.rb_rules.specs.Grammar.Owner.{Other, Own}
 use Rattle.rb_rules.specs.Grammar.DerivesMethod.{Def}
 use Rattle.rb_grammar.proofs.Steps.{shown, within-self, within-token, within-more}
-use Rattle.rb_grammar.proofs.Forms.{sound}
 use Rattle.rb_grammar.proofs.Parameters.{Links}
-use Rattle.rb_grammar_laws.specs.Ends.{BODY_ENDS}
-use Rattle.rb_grammar_laws.proofs.Steps.{on, taken, passed, AllRows, by-row, expects, other, unseen, identifier, constant, Past, past-token, past-within, past-more, within-past, past-length, ends-by}
+use Rattle.rb_grammar_laws.proofs.Steps.{on, taken, passed, AllRows, by-row, expects, other, unseen, identifier, constant, Past, past-token, past-within, past-more, within-past, past-length}
 use Rattle.rb_grammar_laws.proofs.Complete.{Reads, ReadsSome}
-use Rattle.rb_grammar_laws.proofs.Statements.{body-read}
+use Rattle.rb_grammar_laws.proofs.Branches.{guarded-read}
 use Rattle.rb_grammar_laws.proofs.Forms.{complete}
 use Rattle.rb_grammar_laws.proofs.Parameters.{parameters-read, parameters-begin}
 
@@ -93,14 +94,27 @@ own-read o xs ys (Own s d _ is is2) none = (taken _ _ (shown shape.SelfWord s (d
 -- ---- the body
 
 -- one more separator before a body is passed over
-behind-links : (d : ℕ) (zs ys : List Token) → Links zs ys → body d ys ≡ body d zs
-unfolding body longest_body statements.body
-behind-links d zs ys (inl e) = ap (body d) e
-behind-links d zs ys (inr h) = ap (body d) h.2 ∙ ap (λ us. statements.statements (parsed d) d true false us) (taken _ _ (shown shape.Separator h.0 zs h.1) refl)
+body-links : (d : ℕ) (zs ys : List Token) → Links zs ys → length zs < d → parsed d form.Body true ys ≡ parsed d form.Body true zs
+unfolding parsed statements.body
+body-links zero zs ys l less = absurd (let h : ⊥ = omega arith in h)
+body-links (suc d) zs ys (inl e) less = ap (λ us. statements.body (parsed d) d true false us) e
+body-links (suc d) zs ys (inr h) less = ap (λ us. statements.body (parsed d) d true false us) h.2 ∙ ap (λ us. statements.statements (parsed d) d true false us) (taken _ _ (shown shape.Separator h.0 zs h.1) refl)
 
-method-body : (d : ℕ) (b : Tree) (zs : List Token) (e : Token) (ys : List Token) → DerivesBody Inside true b zs (e ∷ ys) → Is shape.End e → length zs < d → ReadsSome (body d) b zs (e ∷ ys)
-unfolding body longest_body same_shape
-method-body d b zs e ys h is less = body-read (parsed d) d (complete d) (sound d) true b zs (e ∷ ys) h (ends-by BODY_ENDS shape.End refl refl true e ys is) less
+-- what stands behind the body
+abbrev rest-of : ℕ → Tree → Parser (Guarded Tree)
+rest-of d b = do
+  clauses ← branches.rescues (parsed d) d true
+  other ← branches.otherwise_behind (parsed d) d true clauses
+  last ← branches.ensure (parsed d) d true
+  pure (record { body = b; rescues = clauses; otherwise = other; ensure = last })
+
+behind-links : (d : ℕ) (zs ys : List Token) → Links zs ys → length zs < d → guarded d ys ≡ guarded d zs
+unfolding guarded branches.guarded
+behind-links d zs ys l less = ap (λ o. and_then o (rest-of d)) (body-links d zs ys l less)
+
+method-guarded : (d : ℕ) (g : Guarded Tree) (zs : List Token) (e : Token) (ys : List Token) → DerivesGuarded true g zs (e ∷ ys) → Is shape.End e → suc (length zs) < d → ReadsSome (guarded d) g zs (e ∷ ys)
+unfolding guarded
+method-guarded d g zs e ys h is less = guarded-read (parsed d) d (complete d) true g zs e ys h is less
 
 -- ---- the whole
 
@@ -114,7 +128,7 @@ front-same None k ks = refl
 front-same (Some v) k ks = refl
 
 pub method-begins : (visible : Option Visibility) (front : Option Token) (t : Tree) (xs ys : List Token) → DerivesMethod visible front t xs ys → sees shape.Def xs ≡ true
-method-begins visible front t xs ys (Def _ _ k e o name name_span parameters b us ps qs rs _ is ho hn hp ordered distinct hb ends) = shown shape.Def k us is
+method-begins visible front t xs ys (Def _ _ k e o name name_span parameters g us ps qs rs _ is ho hn hp ordered distinct hg ends) = shown shape.Def k us is
 
 head-read : (d : ℕ) (visible : Option Visibility) (start : ℕ) (k : Token) (o : Bool) (name : List ℕ) (name_span : Span) (parameters : List (Parameter Tree)) (xs ps qs rs : List Token) →
     Is shape.Def k → Owner o xs ps → MethodName name name_span ps qs → DerivesParameters parameters qs rs → AreParameters parameters → AreDistinct (names_of_parameters parameters) → length (k ∷ xs) < d →
@@ -130,12 +144,12 @@ head-read d visible start k o name name_span parameters xs ps qs rs is ho hn hp 
 
 pub defined-read : (d : ℕ) (visible : Option Visibility) (front : Option Token) (t : Tree) (xs ys : List Token) → DerivesMethod visible front t xs ys → length xs < d → Reads (defined d visible (front_start front xs)) t xs ys
 unfolding defined
-defined-read d visible front t xs ys (Def _ _ k e o name name_span parameters b us ps qs rs _ is ho hn hp ordered distinct hb ends) less =
+defined-read d visible front t xs ys (Def _ _ k e o name name_span parameters g us ps qs rs _ is ho hn hp ordered distinct hg ends) less =
     let start = front_start front (k ∷ us) in
     let h = head-read d visible start k o name name_span parameters us ps qs rs is ho hn hp ordered distinct less in
     let short = past-length h.3 in
-    let r = method-body d b rs e ys hb ends (let h : length rs < d = omega arith in h) in (
-      on _ h.1 (on _ (behind-links d rs h.0 h.2 ∙ r.0) (on _ (expects shape.End e ys ends) (ap (λ n. Ok (tree.Def visible o name name_span parameters b (record { start = n; end = e.span.end }), ys)) (front-same front k us)))),
+    let r = method-guarded d g rs e ys hg ends (let h : suc (length rs) < d = omega arith in h) in (
+      on _ h.1 (on _ (behind-links d rs h.0 h.2 (let h : length rs < d = omega arith in h) ∙ r.0) (on _ (expects shape.End e ys ends) (ap (λ n. Ok (tree.Def visible o name name_span parameters g (record { start = n; end = e.span.end }), ys)) (front-same front k us)))),
       past-token k (within-more (past-within h.3) (within-more r.1 (within-token e (within-self _)))),
     )
 

@@ -27,7 +27,7 @@ use Rattle.rb_rules.specs.Grammar.DerivesPieces.{NoPiece, MorePieces}
 use Rattle.rb_rules.specs.Grammar.DerivesElements.{LastElement, MoreElements}
 use Rattle.rb_rules.specs.Grammar.DerivesPairs.{LastPair, MorePairs}
 use Rattle.rb_rules.specs.Grammar.DerivesPair.{ByArrow, ByLabel}
-use Rattle.rb_rules.specs.Grammar.DerivesPrimary.{WholeNumber, FloatNumber, SignedWhole, SignedFloat, String, SymbolName, InstanceName, ConstantName, FromTop, SelfPlace, NilPlace, TruePlace, FalsePlace, NameAlone, CallWithBrackets, CallWithBlock, Yields, Supers, EmptyArray, SomeArray, EmptyHash, SomeHash, InParens, Branches, Loops, Cases}
+use Rattle.rb_rules.specs.Grammar.DerivesPrimary.{WholeNumber, FloatNumber, SignedWhole, SignedFloat, String, SymbolName, InstanceName, ConstantName, FromTop, SelfPlace, NilPlace, TruePlace, FalsePlace, NameAlone, CallWithBrackets, CallWithBlock, Yields, Supers, EmptyArray, SomeArray, EmptyHash, SomeHash, InParens, Branches, Loops, Guards, Cases}
 use Rattle.rb_grammar.proofs.Steps.{shown, same, Within, within-self, within-token, within-more}
 use Rattle.rb_grammar_laws.specs.Begins.{TERMS, ARGUMENTS}
 use Rattle.rb_grammar_laws.specs.Ends.{Ends, BODY_ENDS, TERM_ENDS, PRIMARY_ENDS}
@@ -38,7 +38,7 @@ use Rattle.rb_grammar_laws.proofs.Complete.{Reads, Complete}
 use Rattle.rb_grammar_laws.proofs.Lists.{square, curly, list-ends, list-within, element-closed, element-more}
 use Rattle.rb_grammar_laws.proofs.Calls.{brackets-read, any-read, behind-read, block-ends}
 use Rattle.rb_expr.specs.Branches.{branch, repeated}
-use Rattle.rb_grammar_laws.proofs.Branches.{branch-read, repeated-read, choice-read}
+use Rattle.rb_grammar_laws.proofs.Branches.{branch-read, repeated-read, choice-read, guards-read}
 use Rattle.rb_rules.specs.Grammar.DerivesBrackets.{NoBrackets}
 use Rattle.rb_expr.specs.declared.form.Form.TheVariants as form
 use Rattle.rb_expr.specs.Calls.{any_block, optional_block}
@@ -318,6 +318,9 @@ module _ (nested : Form → Bool → Parser Tree) (turns : ℕ) (ih : Complete t
             ((λ h. h), ((λ h. h), tt)) _ _ row r.0),
         within-token k (past-within r.1),
       )
+  primary-read free p last xs ys (Guards _ k z g us _ is d is2) ends fits =
+      let r = guards-read nested turns ih free k z g us ys d is2 fits in
+      (opened free shape.Begin k us _ is r.0, within-token k r.1)
   primary-read free p last xs ys (Cases _ k z given arm arms o us ps qs rs _ is d g w e is2) ends fits =
       let r = choice-read nested turns ih free k z given arm arms o us ps qs rs ys d g w e is2 fits in
       (opened free shape.Case k us _ is r.0, within-token k (past-within r.1))

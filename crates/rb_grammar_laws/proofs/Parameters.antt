@@ -1,9 +1,9 @@
 -- Parameters that derive are read.
 use Rattle.std.proofs.Common.{◌≡◌, ℕ, zero, suc, ◌<◌, Bool, true, false, not, ◌||◌, if◌then◌else◌, List, [], ◌∷◌, ◌++◌, length, Some, None, Ok, inl, inr, refl, sym, ap, subst, ◌∙◌, append_assoc, arith}
-use Rattle.srb_terms.specs.declared.span.Span.{Span}
 use Rattle.rb_tree.specs.Tokens.{shape_of, same_shape}
 use Rattle.rb_tree.specs.declared.syntax.Parameter.{Parameter}
-use Rattle.rb_tree.specs.declared.syntax.Parameter.TheVariants as parameter
+use Rattle.srb_terms.specs.declared.param_kind.ParamKind.{ParamKind}
+use Rattle.srb_terms.specs.declared.param_kind.ParamKind.TheVariants as param_kind
 use Rattle.rb_tree.specs.declared.syntax.Tree.{Tree}
 use Rattle.rb_tree.specs.declared.token.Token.{Token}
 use Rattle.rb_tree.specs.declared.token.TokenKind.{TokenKind}
@@ -15,9 +15,9 @@ use Rattle.rb_expr.specs.Rules.{tern}
 use Rattle.rb_decl.specs.declared.parameter.Stage.{Stage}
 use Rattle.rb_decl.specs.declared.parameter.Stage.TheVariants as stage
 use Rattle.rb_decl.specs.Parameters as spec
-use Rattle.rb_decl.specs.Parameters.{name_of, stage_behind, is_among, fresh, noted, is_plain, is_first, is_last, plain, has_no_default, keyword, block, behind_comma, is_over, row_from, row, bracketed, bare, parameters_of}
+use Rattle.rb_decl.specs.Parameters.{stage_behind, is_among, fresh, noted, is_plain, is_first, is_last, plain, has_no_default, keyword, block, behind_comma, is_over, row_from, row, bracketed, bare, parameters_of}
 use Rattle.rb_rules.specs.Tokens.{Is, StartsWith}
-use Rattle.rb_rules.specs.Forms.{AreParameters, AreOptional, AreKeywords, AreDistinct, IsNot, name_of_parameter, names_of_parameters, EndsByBlockParameter}
+use Rattle.rb_rules.specs.Forms.{AreParameters, AreKinds, AreOptionalKinds, AreKeyKinds, EndsByBlockKind, kinds_of, AreDistinct, IsNot, names_of_parameters}
 use Rattle.rb_rules.specs.Grammar.{Gap, GapIn, DerivesParameter, DerivesParameterList, DerivesParameters, DerivesTerm}
 use Rattle.rb_rules.specs.Grammar.Gap.{Closed, Wide}
 use Rattle.rb_rules.specs.Grammar.GapIn.{Tight, Loose}
@@ -39,81 +39,75 @@ use Rattle.rb_expr.specs.Grammar.{parsed}
 
 -- ---- orders and names
 
--- a parameter may come at a stage
-abbrev Fits : Parameter Tree → Stage → Type 0
-Fits (parameter.Required n s) at = (is_plain at ≡ true) × (is_first at ≡ true)
-Fits (parameter.Optional n s v) at = is_plain at ≡ true
-Fits p at = Unit {0}
+-- a parameter of this kind may come at a stage
+abbrev Fits : ParamKind → Stage → Type 0
+Fits param_kind.Required at = (is_plain at ≡ true) × (is_first at ≡ true)
+Fits param_kind.Optional at = is_plain at ≡ true
+Fits k at = Unit {0}
 
-abbrev InOrder : Stage → List (Parameter Tree) → Type 0
-InOrder stage.Required ps = AreParameters ps
-InOrder stage.Optional ps = AreOptional ps
-InOrder stage.Keyword ps = AreKeywords ps
+abbrev InOrder : Stage → List ParamKind → Type 0
+InOrder stage.Required ks = AreKinds ks
+InOrder stage.Optional ks = AreOptionalKinds ks
+InOrder stage.Keyword ks = AreKeyKinds ks
 InOrder stage.Block [] = Unit {0}
-InOrder stage.Block (p ∷ ps) = ⊥
+InOrder stage.Block (k ∷ ks) = ⊥
 
-first-fits : (at : Stage) (p : Parameter Tree) (more : List (Parameter Tree)) → InOrder at (p ∷ more) → Fits p at
-first-fits stage.Required (parameter.Required n s) more o = (refl, refl)
-first-fits stage.Optional (parameter.Required n s) more o = absurd o
-first-fits stage.Keyword (parameter.Required n s) more o = absurd o
-first-fits stage.Block (parameter.Required n s) more o = absurd o
-first-fits stage.Required (parameter.Optional n s v) more o = refl
-first-fits stage.Optional (parameter.Optional n s v) more o = refl
-first-fits stage.Keyword (parameter.Optional n s v) more o = absurd o
-first-fits stage.Block (parameter.Optional n s v) more o = absurd o
-first-fits at (parameter.RequiredKeyword n s) more o = tt
-first-fits at (parameter.OptionalKeyword n s v) more o = tt
-first-fits at (parameter.Block n s) more o = tt
+first-fits : (at : Stage) (k : ParamKind) (more : List ParamKind) → InOrder at (k ∷ more) → Fits k at
+first-fits stage.Required param_kind.Required more o = (refl, refl)
+first-fits stage.Optional param_kind.Required more o = absurd o
+first-fits stage.Keyword param_kind.Required more o = absurd o
+first-fits stage.Block param_kind.Required more o = absurd o
+first-fits stage.Required param_kind.Optional more o = refl
+first-fits stage.Optional param_kind.Optional more o = refl
+first-fits stage.Keyword param_kind.Optional more o = absurd o
+first-fits stage.Block param_kind.Optional more o = absurd o
+first-fits at param_kind.Key more o = tt
+first-fits at param_kind.KeyOptional more o = tt
+first-fits at param_kind.Block more o = tt
+first-fits at param_kind.Rest more o = tt
 
-ends-block : (n : List ℕ) (s : Span) (more : List (Parameter Tree)) → EndsByBlockParameter (parameter.Block n s ∷ more) → InOrder stage.Block more
-ends-block n s [] o = tt
-ends-block n s (p ∷ more) o = o
+ends-block : (more : List ParamKind) → EndsByBlockKind (param_kind.Block ∷ more) → InOrder stage.Block more
+ends-block [] o = tt
+ends-block (k ∷ more) o = o
 
-more-in-order : (at : Stage) (p : Parameter Tree) (more : List (Parameter Tree)) → InOrder at (p ∷ more) → InOrder (stage_behind p) more
-more-in-order stage.Required (parameter.Required n s) more o = o
-more-in-order stage.Optional (parameter.Required n s) more o = absurd o
-more-in-order stage.Keyword (parameter.Required n s) more o = absurd o
-more-in-order stage.Block (parameter.Required n s) more o = absurd o
-more-in-order stage.Required (parameter.Optional n s v) more o = o
-more-in-order stage.Optional (parameter.Optional n s v) more o = o
-more-in-order stage.Keyword (parameter.Optional n s v) more o = absurd o
-more-in-order stage.Block (parameter.Optional n s v) more o = absurd o
-more-in-order stage.Required (parameter.RequiredKeyword n s) more o = o
-more-in-order stage.Optional (parameter.RequiredKeyword n s) more o = o
-more-in-order stage.Keyword (parameter.RequiredKeyword n s) more o = o
-more-in-order stage.Block (parameter.RequiredKeyword n s) more o = absurd o
-more-in-order stage.Required (parameter.OptionalKeyword n s v) more o = o
-more-in-order stage.Optional (parameter.OptionalKeyword n s v) more o = o
-more-in-order stage.Keyword (parameter.OptionalKeyword n s v) more o = o
-more-in-order stage.Block (parameter.OptionalKeyword n s v) more o = absurd o
-more-in-order stage.Required (parameter.Block n s) more o = ends-block n s more o
-more-in-order stage.Optional (parameter.Block n s) more o = ends-block n s more o
-more-in-order stage.Keyword (parameter.Block n s) more o = ends-block n s more o
-more-in-order stage.Block (parameter.Block n s) more o = absurd o
+more-in-order : (at : Stage) (k : ParamKind) (more : List ParamKind) → InOrder at (k ∷ more) → InOrder (stage_behind k) more
+more-in-order stage.Required param_kind.Required more o = o
+more-in-order stage.Optional param_kind.Required more o = absurd o
+more-in-order stage.Keyword param_kind.Required more o = absurd o
+more-in-order stage.Required param_kind.Optional more o = o
+more-in-order stage.Optional param_kind.Optional more o = o
+more-in-order stage.Keyword param_kind.Optional more o = absurd o
+more-in-order stage.Required param_kind.Key more o = o
+more-in-order stage.Optional param_kind.Key more o = o
+more-in-order stage.Keyword param_kind.Key more o = o
+more-in-order stage.Required param_kind.KeyOptional more o = o
+more-in-order stage.Optional param_kind.KeyOptional more o = o
+more-in-order stage.Keyword param_kind.KeyOptional more o = o
+more-in-order stage.Required param_kind.Block more o = ends-block more o
+more-in-order stage.Optional param_kind.Block more o = ends-block more o
+more-in-order stage.Keyword param_kind.Block more o = ends-block more o
+more-in-order stage.Required param_kind.Rest more o = absurd o
+more-in-order stage.Optional param_kind.Rest more o = absurd o
+more-in-order stage.Keyword param_kind.Rest more o = absurd o
+more-in-order stage.Block k more o = absurd o
 
-not-last : (p : Parameter Tree) (more : List (Parameter Tree)) → IsSome more → InOrder (stage_behind p) more → is_last (stage_behind p) ≡ false
-not-last p [] some o = absurd some
-not-last (parameter.Required n s) (q ∷ more) some o = refl
-not-last (parameter.Optional n s v) (q ∷ more) some o = refl
-not-last (parameter.RequiredKeyword n s) (q ∷ more) some o = refl
-not-last (parameter.OptionalKeyword n s v) (q ∷ more) some o = refl
-not-last (parameter.Block n s) (q ∷ more) some o = absurd o
-
-same-name : (p : Parameter Tree) → name_of p ≡ name_of_parameter p
-same-name (parameter.Required n s) = refl
-same-name (parameter.Optional n s v) = refl
-same-name (parameter.RequiredKeyword n s) = refl
-same-name (parameter.OptionalKeyword n s v) = refl
-same-name (parameter.Block n s) = refl
+not-last : (k : ParamKind) (more : List (Parameter Tree)) → IsSome more → InOrder (stage_behind k) (kinds_of more) → is_last (stage_behind k) ≡ false
+not-last k [] some o = absurd some
+not-last param_kind.Required (q ∷ more) some o = refl
+not-last param_kind.Optional (q ∷ more) some o = refl
+not-last param_kind.Key (q ∷ more) some o = refl
+not-last param_kind.KeyOptional (q ∷ more) some o = refl
+not-last param_kind.Block (q ∷ more) some o = absurd o
+not-last param_kind.Rest (q ∷ more) some o = refl
 
 -- none of these parameters has one of these names
 abbrev Fresh : List (List ℕ) → List (Parameter Tree) → Type 0
 Fresh old [] = Unit {0}
-Fresh old (p ∷ more) = (is_among old (name_of_parameter p) ≡ false) × Fresh old more
+Fresh old (p ∷ more) = (is_among old p.name ≡ false) × Fresh old more
 
 still-fresh : (old : List (List ℕ)) (w : List ℕ) (more : List (Parameter Tree)) → Fresh old more → IsNot w (names_of_parameters more) → Fresh (old ++ w ∷ []) more
 still-fresh old w [] f d = tt
-still-fresh old w (p ∷ more) f d = (still-new old w (name_of_parameter p) f.0 d.0, still-fresh old w more f.1 d.1)
+still-fresh old w (p ∷ more) f d = (still-new old w p.name f.0 d.0, still-fresh old w more f.1 d.1)
 
 all-fresh : (more : List (Parameter Tree)) → Fresh [] more
 all-fresh [] = tt
@@ -158,33 +152,33 @@ ampersand-read : (d : ℕ) (at : Stage) (old : List (List ℕ)) (a : Token) (ts 
 unfolding spec.parameter
 ampersand-read d at old a ts is = subst (λ k. spec.parameter d at old (record { kind = k; span = a.span } ∷ ts) ≡ block old ts) (sym (ampersand-kind a.kind is)) refl
 
-parameter-read : (d : ℕ) (at : Stage) (old : List (List ℕ)) (p : Parameter Tree) (xs ys : List Token) → DerivesParameter p xs ys → Fits p at → is_among old (name_of_parameter p) ≡ false → StartsWith PARAMETER_ENDS ys → length xs < d → Reads (spec.parameter d at old) p xs ys
+parameter-read : (d : ℕ) (at : Stage) (old : List (List ℕ)) (p : Parameter Tree) (xs ys : List Token) → DerivesParameter p xs ys → Fits p.kind at → is_among old p.name ≡ false → StartsWith PARAMETER_ENDS ys → length xs < d → Reads (spec.parameter d at old) p xs ys
 unfolding spec.parameter plain keyword block same_shape
 parameter-read d at old p xs ys (Required t w _ is) fits new ends less = (
-  subst (λ k. spec.parameter d at old (record { kind = k; span = t.span } ∷ ys) ≡ Ok (parameter.Required w t.span, ys)) (sym is)
+  subst (λ k. spec.parameter d at old (record { kind = k; span = t.span } ∷ ys) ≡ Ok (spec.parameter_of param_kind.Required w t.span None, ys)) (sym is)
       (taken _ _ fits.0 (when-new old w (λ name. plain d at name t.span ys) _ _ new (passed _ _ (unseen shape.Assign PARAMETER_ENDS refl ys ends) (taken _ _ fits.1 refl)))),
   past-token t (within-self _),
 )
 parameter-read d at old p xs ys (Optional t e w v us _ is is2 h) fits new ends less =
     let r = default-read d v us ys h (term-ends ys ends) (let k : length us < d = omega arith in k) in (
-      subst (λ k. spec.parameter d at old (record { kind = k; span = t.span } ∷ e ∷ us) ≡ Ok (parameter.Optional w t.span v, ys)) (sym is)
+      subst (λ k. spec.parameter d at old (record { kind = k; span = t.span } ∷ e ∷ us) ≡ Ok (spec.parameter_of param_kind.Optional w t.span (Some v), ys)) (sym is)
           (taken _ _ fits (when-new old w (λ name. plain d at name t.span (e ∷ us)) _ _ new (taken _ _ (shown shape.Assign e us is2) (on _ r.0 refl)))),
       past-token t (within-token e (past-within r.1)),
     )
 parameter-read d at old p xs ys (RequiredKeyword l w _ is) fits new ends less = (
-  subst (λ k. spec.parameter d at old (record { kind = k; span = l.span } ∷ ys) ≡ Ok (parameter.RequiredKeyword w l.span, ys)) (sym is)
+  subst (λ k. spec.parameter d at old (record { kind = k; span = l.span } ∷ ys) ≡ Ok (spec.parameter_of param_kind.Key w l.span None, ys)) (sym is)
       (when-new old w (λ name. keyword d name l.span ys) _ _ new (taken _ _ (no-default ys ends) refl)),
   past-token l (within-self _),
 )
 parameter-read d at old p xs ys (OptionalKeyword l w v us _ is h) fits new ends less =
     let r = default-read d v us ys h (term-ends ys ends) (let k : length us < d = omega arith in k) in (
-      subst (λ k. spec.parameter d at old (record { kind = k; span = l.span } ∷ us) ≡ Ok (parameter.OptionalKeyword w l.span v, ys)) (sym is)
+      subst (λ k. spec.parameter d at old (record { kind = k; span = l.span } ∷ us) ≡ Ok (spec.parameter_of param_kind.KeyOptional w l.span (Some v), ys)) (sym is)
           (when-new old w (λ name. keyword d name l.span us) _ _ new (passed _ _ (a-default us (term-begins true v us ys h)) (on _ r.0 refl))),
       past-token l (past-within r.1),
     )
 parameter-read d at old p xs ys (BlockParameter a t w _ is is2) fits new ends less = (
-  ampersand-read d at old a (t ∷ ys) is ∙ subst (λ k. block old (record { kind = k; span = t.span } ∷ ys) ≡ Ok (parameter.Block w t.span, ys)) (sym is2)
-      (when-new old w (λ name. Ok (parameter.Block name t.span, ys)) _ _ new refl),
+  ampersand-read d at old a (t ∷ ys) is ∙ subst (λ k. block old (record { kind = k; span = t.span } ∷ ys) ≡ Ok (spec.parameter_of param_kind.Block w t.span None, ys)) (sym is2)
+      (when-new old w (λ name. Ok (spec.parameter_of param_kind.Block name t.span None, ys)) _ _ new refl),
   past-token a (within-token t (within-self _)),
 )
 
@@ -214,36 +208,35 @@ comma-behind : (bracketed : Bool) (c : Token) (qs us : List Token) → GapIn bra
 comma-behind bracketed c qs us (Tight _) none = (refl, within-self _)
 comma-behind bracketed c qs us (Loose _ _ g) none = (skipped qs us g none, gap-within qs us g)
 
-over-by : (p : Parameter Tree) (xs : List Token) → sees shape.Comma xs ≡ false → is_over (stage_behind p) xs ≡ true
-over-by p xs e = or-right (is_last (stage_behind p)) _ (ap not e)
+over-by : (p : Parameter Tree) (xs : List Token) → sees shape.Comma xs ≡ false → is_over (stage_behind p.kind) xs ≡ true
+over-by p xs e = or-right (is_last (stage_behind p.kind)) _ (ap not e)
   where
     or-right : (a b : Bool) → b ≡ true → (a || b) ≡ true
     or-right true b e = refl
     or-right false b e = e
 
-goes-on : (p : Parameter Tree) (c : Token) (qs : List Token) → is_last (stage_behind p) ≡ false → Is shape.Comma c → is_over (stage_behind p) (c ∷ qs) ≡ false
+goes-on : (p : Parameter Tree) (c : Token) (qs : List Token) → is_last (stage_behind p.kind) ≡ false → Is shape.Comma c → is_over (stage_behind p.kind) (c ∷ qs) ≡ false
 goes-on p c qs e is = ap (λ b. b || not (sees shape.Comma (c ∷ qs))) e ∙ ap not (shown shape.Comma c qs is)
 
 row-read : (d : ℕ) (bracketed : Bool) (ps : List (Parameter Tree)) (xs ys : List Token) → DerivesParameterList bracketed ps xs ys → StartsWith PARAMETER_ENDS ys → sees shape.Comma ys ≡ false → (n : ℕ) (at : Stage) (old : List (List ℕ)) (found : List (Parameter Tree)) →
-    InOrder at ps → Fresh old ps → AreDistinct (names_of_parameters ps) → length xs < n → length xs < d → Reads (row_from d bracketed n at old found) (found ++ ps) xs ys
+    InOrder at (kinds_of ps) → Fresh old ps → AreDistinct (names_of_parameters ps) → length xs < n → length xs < d → Reads (row_from d bracketed n at old found) (found ++ ps) xs ys
 unfolding row_from same_shape
 row-read d bracketed ps xs ys h ends comma zero at old found o f distinct less fits = absurd (let h : ⊥ = omega arith in h)
 row-read d bracketed ps xs ys (LastParameter _ p _ _ h) ends comma (suc n) at old found o f distinct less fits =
-    let r = parameter-read d at old p xs ys h (first-fits at p [] o) f.0 ends fits in
+    let r = parameter-read d at old p xs ys h (first-fits at p.kind [] o) f.0 ends fits in
     (on _ r.0 (taken _ _ (over-by p ys comma) refl), r.1)
 row-read d bracketed ps xs ys (MoreParameters _ c p more _ qs us _ h is g e) ends comma (suc n) at old found o f distinct less fits =
     let some = list-some bracketed more us ys e in
     let begin = list-begins bracketed more us ys e in
-    let o2 = more-in-order at p more o in
-    let r = parameter-read d at old p xs (c ∷ qs) h (first-fits at p more o) f.0 (inl is) fits in
+    let o2 = more-in-order at p.kind (kinds_of more) o in
+    let r = parameter-read d at old p xs (c ∷ qs) h (first-fits at p.kind (kinds_of more) o) f.0 (inl is) fits in
     let b = comma-behind bracketed c qs us g (unseen shape.Separator (shape.Identifier ∷ shape.Label ∷ shape.Ampersand ∷ []) refl us begin) in
     let p2 = past-more r.1 (within-token c b.1) in
     let short = past-length p2 in
-    let new : is_among old (name_of p) ≡ false = subst (λ w. is_among old w ≡ false) (sym (same-name p)) f.0 in
-    let names : noted old (name_of p) ≡ old ++ name_of_parameter p ∷ [] = noted-new old (name_of p) new ∙ ap (λ w. old ++ w ∷ []) (same-name p) in
-    let l = row-read d bracketed more us ys e ends comma n (stage_behind p) (old ++ name_of_parameter p ∷ []) (found ++ p ∷ []) o2 (still-fresh old (name_of_parameter p) more f.1 distinct.0) distinct.1 (let k : length us < n = omega arith in k) (let k : length us < d = omega arith in k) in (
-      on _ r.0 (passed _ _ (goes-on p c qs (not-last p more some o2) is)
-          (ap (λ names. row_from d bracketed n (stage_behind p) names (found ++ p ∷ []) (behind_comma bracketed (c ∷ qs))) names ∙ ap (λ zs. row_from d bracketed n (stage_behind p) (old ++ name_of_parameter p ∷ []) (found ++ p ∷ []) zs) b.0
+    let names : noted old p.name ≡ old ++ p.name ∷ [] = noted-new old p.name f.0 in
+    let l = row-read d bracketed more us ys e ends comma n (stage_behind p.kind) (old ++ p.name ∷ []) (found ++ p ∷ []) o2 (still-fresh old p.name more f.1 distinct.0) distinct.1 (let k : length us < n = omega arith in k) (let k : length us < d = omega arith in k) in (
+      on _ r.0 (passed _ _ (goes-on p c qs (not-last p.kind more some o2) is)
+          (ap (λ names. row_from d bracketed n (stage_behind p.kind) names (found ++ p ∷ []) (behind_comma bracketed (c ∷ qs))) names ∙ ap (λ zs. row_from d bracketed n (stage_behind p.kind) (old ++ p.name ∷ []) (found ++ p ∷ []) zs) b.0
           ∙ l.0 ∙ ap (λ found. Ok (found, ys)) (append_assoc found (p ∷ []) more))),
       past-more p2 (past-within l.1),
     )

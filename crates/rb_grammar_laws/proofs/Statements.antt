@@ -1,10 +1,14 @@
 -- Statements that derive are read, and bodies of them.
-use Rattle.std.proofs.Common.{◌≡◌, ℕ, zero, suc, ◌<◌, Bool, true, false, not, ◌||◌, is_none, if◌then◌else◌, List, [], ◌∷◌, ◌++◌, length, Option, Some, None, Ok, refl, sym, ap, subst, ◌∙◌, append_assoc, append-nil, arith}
+use Rattle.std.proofs.Common.{◌≡◌, ℕ, zero, suc, ◌<◌, Bool, true, false, not, ◌||◌, is_none, if◌then◌else◌, List, [], ◌∷◌, ◌++◌, length, Option, Some, None, Ok, ◌⊎◌, inl, inr, ⊎_elim, refl, sym, ap, subst, ◌∙◌, append_assoc, append-nil, arith}
 use Rattle.rb_tree.specs.Tokens.{shape_of, same_shape}
 use Rattle.rb_tree.specs.Trees.{span_of}
 use Rattle.rb_tree.specs.declared.syntax.Jump.{Jump}
 use Rattle.rb_tree.specs.declared.syntax.Modifier.{Modifier}
-use Rattle.rb_tree.specs.declared.syntax.Tree.{Tree}
+use Rattle.rb_tree.specs.declared.syntax.Modifier.TheVariants as modifier
+use Rattle.rb_tree.specs.declared.syntax.Tree.{Tree, out-Tree}
+use Rattle.rb_tree.specs.declared.syntax.Tree.TheOpen.{Tree-F}
+use Rattle.rb_tree.specs.declared.syntax.Tree.TheViews.{roll-Tree, out-roll-Tree}
+use Rattle.rb_tree.specs.declared.syntax.Tree.TheVariants.{rolls-Body}
 use Rattle.rb_tree.specs.declared.syntax.Tree.TheVariants as tree
 use Rattle.rb_tree.specs.declared.token.Token.{Token}
 use Rattle.rb_tree.specs.declared.token.Shape.TheVariants as shape
@@ -13,12 +17,13 @@ use Rattle.rb_expr.specs.Reading.{Outcome, Parser, sees, peek, start_of, skip_se
 use Rattle.rb_expr.specs.Shapes.{begins_simple, begins_statement, begins_value, has_value, jump_of, modifier_of}
 use Rattle.rb_expr.specs.Operators as operators
 use Rattle.rb_expr.specs.Statements as spec
-use Rattle.rb_expr.specs.Statements.{value, jump, jump_value, simple_by, simple, modified, modifiers_by, modifiers_from, modifiers, statement, body_from, body_start, statements}
-use Rattle.rb_rules.specs.Tokens.{StartsWith}
+use Rattle.rb_expr.specs.Statements.{value, jump, jump_value, simple_by, simple, modified, modifiers_by, modifiers_from, modifiers, may_modify, allowed, modifier_behind, ended, statement, body_from, body_start, statements}
+use Rattle.rb_rules.specs.Tokens.{Is, StartsWith}
 use Rattle.rb_rules.specs.Spans.{across, last_of}
-use Rattle.rb_rules.specs.Forms.{Site, Inside, MODIFIERS}
-use Rattle.rb_rules.specs.Grammar.{Gap, IsRow, MODIFIER_WORDS, JUMP_WORDS, body_of, DerivesBody, DerivesMore, DerivesStatement, DerivesModified, DerivesSimple}
+use Rattle.rb_rules.specs.Forms.{Site, Inside, MODIFIERS, MayModify}
+use Rattle.rb_rules.specs.Grammar.{Gap, IsRow, MODIFIER_WORDS, JUMP_WORDS, body_of, Parted, DerivesBody, DerivesMore, DerivesStatement, DerivesModified, DerivesSimple}
 use Rattle.rb_rules.specs.Grammar.Gap.{Closed, Wide}
+use Rattle.rb_rules.specs.Grammar.Parted.{BehindNothing, BehindSeparator}
 use Rattle.rb_rules.specs.Grammar.DerivesBody.{NoStatement, Statements}
 use Rattle.rb_rules.specs.Grammar.DerivesMore.{NoMore, Another}
 use Rattle.rb_rules.specs.Grammar.DerivesStatement.{Declared, Simply}
@@ -27,9 +32,10 @@ use Rattle.rb_rules.specs.Grammar.DerivesSimple.{Valued, Jumps, JumpsWith}
 use Rattle.rb_grammar.proofs.Steps.{Holds, shown, within-self, within-token, within-more}
 use Rattle.rb_grammar.proofs.Sound.{Sound, Starts}
 use Rattle.rb_grammar.proofs.Statements as sound
+use Rattle.rb_grammar.proofs.Statements.{same-begin}
 use Rattle.rb_grammar_laws.specs.Begins.{TERMS, SIMPLE}
 use Rattle.rb_grammar_laws.specs.Ends.{Ends, BODY_ENDS, STATEMENT_ENDS, SIMPLE_ENDS}
-use Rattle.rb_grammar_laws.proofs.Steps.{on, taken, passed, by-row, each, not-false, is_in, in-list, unseen, skipped, past-token, past-within, past-more, past-length, within-length, gap-within, ends-by, ends-unseen, ends-wider}
+use Rattle.rb_grammar_laws.proofs.Steps.{on, taken, passed, by-row, each, not-false, is_in, in-list, other, unseen, skipped, past-token, past-within, past-more, past-length, within-length, gap-within, ends-by, ends-unseen, ends-wider}
 use Rattle.rb_grammar_laws.proofs.Begins.{value-begins, statement-begins}
 use Rattle.rb_grammar_laws.proofs.Complete.{Reads, ReadsSome, Complete}
 use Rattle.rb_grammar_laws.proofs.Values.{value-read}
@@ -70,10 +76,27 @@ no-modifier free (t ∷ ts) h = none-of _ (each (λ c. is_none (modifier_of (Som
 a-modifier : (m : Token) (ms : List Token) (word : Modifier) → IsRow MODIFIER_WORDS (shape_of m.kind) word → modifier_of (peek (m ∷ ms)) ≡ Some word
 a-modifier m ms word row = by-row MODIFIER_WORDS (λ s w. modifier_of (Some s) ≡ Some w) (refl, (refl, (refl, (refl, tt)))) _ _ row
 
+may : (word : Modifier) (s : Tree) → MayModify word s → may_modify word s ≡ true
+unfolding may_modify
+may modifier.If s h = refl
+may modifier.Unless s h = refl
+may modifier.While s (inl e) = absurd (cc)
+may modifier.Until s (inl e) = absurd (cc)
+may modifier.While s (inr e) = ap not (same-begin s ∙ e)
+may modifier.Until s (inr e) = ap not (same-begin s ∙ e)
+
+no-modifier-behind : (s : Tree) (free : Bool) (xs : List Token) → Ends STATEMENT_ENDS free xs → modifier_behind s (peek xs) ≡ None
+unfolding modifier_behind
+no-modifier-behind s free xs h = ap (allowed s) (no-modifier free xs h)
+
+a-modifier-behind : (s : Tree) (m : Token) (ms : List Token) (word : Modifier) → IsRow MODIFIER_WORDS (shape_of m.kind) word → MayModify word s → modifier_behind s (peek (m ∷ ms)) ≡ Some word
+unfolding modifier_behind
+a-modifier-behind s m ms word row h = ap (allowed s) (a-modifier m ms word row) ∙ ap (λ b. if b then Some word else None) (may word s h)
+
 modified-ends : (free : Bool) (s t : Tree) (xs ys : List Token) → DerivesModified free s t xs ys → Ends STATEMENT_ENDS free ys → Ends SIMPLE_ENDS free xs
 unfolding same_shape
 modified-ends free s t xs ys (Unmodified _ _ _) ends = ends-wider STATEMENT_ENDS SIMPLE_ENDS refl free ys ends
-modified-ends free s t xs ys (Modified _ m word _ c _ us ps _ row d e) ends =
+modified-ends free s t xs ys (Modified _ m word _ c _ us ps _ row allows d e) ends =
     let h = by-row MODIFIER_WORDS (λ s w. (is_in SIMPLE_ENDS s ≡ true) × (same_shape s shape.Do ≡ false)) ((refl, refl), ((refl, refl), ((refl, refl), ((refl, refl), tt)))) _ _ row in
     (in-list SIMPLE_ENDS _ h.0, λ f is. let e = h.1 in let g : false ≡ true = sym e ∙ shown shape.Do m us is in absurd (cc))
 
@@ -94,10 +117,73 @@ unfolding same_shape
 gap-statement-ends free xs ys (Closed _) h = ends-wider BODY_ENDS STATEMENT_ENDS refl free ys h
 gap-statement-ends free xs ys (Wide t us _ is g) h = ends-by STATEMENT_ENDS shape.Separator refl refl free t us is
 
-more-ends : (at : Site) (free : Bool) (ss : List Tree) (qs rs ys : List Token) → DerivesMore at free ss qs rs → Gap rs ys → Ends BODY_ENDS free ys → Ends STATEMENT_ENDS free qs
+-- A body of statements is read up to the second list, where the last of them ends before the first.
+record Over (free : Bool) (rs ys : List Token) : Type 0 where
+  gap : Gap rs ys
+  follows : Ends STATEMENT_ENDS free rs
+  over : begins_statement ys ≡ false
+  separated : sees shape.Separator ys ≡ false
+  divided : sees shape.Rescue rs ≡ false
+
+divided-by : (free : Bool) (rs ys : List Token) → Gap rs ys → Ends BODY_ENDS free ys → sees shape.Rescue rs ≡ false
 unfolding same_shape
-more-ends at free ss qs rs ys (NoMore _ _ _) g h = gap-statement-ends free qs ys g h
-more-ends at free ss qs rs ys (Another _ _ t s more us ps vs _ is gap d e) g h = ends-by STATEMENT_ENDS shape.Separator refl refl free t us is
+divided-by free rs ys (Closed _) h = ends-unseen shape.Rescue BODY_ENDS refl free ys h
+divided-by free rs ys (Wide t us _ is g) h = other shape.Rescue shape.Separator t us is refl
+
+over-ends : (free : Bool) (rs ys : List Token) → Gap rs ys → Ends BODY_ENDS free ys → Over free rs ys
+unfolding same_shape
+over-ends free rs ys g h = record { gap = g; follows = gap-statement-ends free rs ys g h; over = over free ys h; separated = ends-unseen shape.Separator BODY_ENDS refl free ys h; divided = divided-by free rs ys g h }
+
+-- a gap with one more separator
+gap-before : (rs : List Token) (t : Token) (ys : List Token) → Gap rs (t ∷ ys) → Is shape.Separator t → (u : Token) × (us : List Token) × (rs ≡ u ∷ us) × Is shape.Separator u × Gap rs ys
+gap-before rs t ys (Closed _) is = (t, ys, refl, is, Wide _ _ _ is (Closed _))
+gap-before rs t ys (Wide u us _ is2 g) is = (u, us, refl, is2, Wide _ _ _ is2 (gap-before us t ys g is).4)
+
+no-statement : (k : Token) (ys : List Token) → Is shape.Rescue k → begins_statement (k ∷ ys) ≡ false
+unfolding begins_statement
+no-statement k ys is = ap begins_simple is
+
+over-rescue : (free : Bool) (rs : List Token) (t k : Token) (ys : List Token) → Gap rs (t ∷ k ∷ ys) → Is shape.Separator t → Is shape.Rescue k → Over free rs (k ∷ ys)
+unfolding same_shape
+over-rescue free rs t k ys g is rescue =
+    let b = gap-before rs t (k ∷ ys) g is in record {
+      gap = b.4;
+      follows = subst (λ zs. Ends STATEMENT_ENDS free zs) (sym b.2) (ends-by STATEMENT_ENDS shape.Separator refl refl free b.0 b.1 b.3);
+      over = no-statement k ys rescue;
+      separated = other shape.Separator shape.Rescue k ys rescue refl;
+      divided = subst (λ zs. sees shape.Rescue zs ≡ false) (sym b.2) (other shape.Rescue shape.Separator b.0 b.1 b.3 refl);
+    }
+
+more-ends : (at : Site) (free : Bool) (ss : List Tree) (qs rs : List Token) → DerivesMore at free ss qs rs → Ends STATEMENT_ENDS free rs → Ends STATEMENT_ENDS free qs
+unfolding same_shape
+more-ends at free ss qs rs (NoMore _ _ _) h = h
+more-ends at free ss qs rs (Another _ _ t s more us ps vs _ is gap d e) h = ends-by STATEMENT_ENDS shape.Separator refl refl free t us is
+
+-- a body of statements is not empty
+has_statements_at : {X : Type 0} → Tree-F X → Bool
+has_statements_at (Tree-F.Body [] span) = false
+has_statements_at t = true
+
+has_statements : Tree → Bool
+has_statements t = has_statements_at (out-Tree t)
+
+statements-as : (t : Tree) (r : Tree-F Tree) → roll-Tree r ≡ t → has_statements t ≡ has_statements_at r
+unfolding has_statements
+statements-as t r e = ap (λ u. has_statements_at (out-Tree u)) (sym e) ∙ ap (λ q. has_statements_at q) (out-roll-Tree r)
+
+not-empty : (s : Tree) (ss : List Tree) → body_of [] ≡ body_of (s ∷ ss) → ⊥
+unfolding has_statements_at
+not-empty s ss e =
+    let f : false ≡ true = sym (statements-as _ (Tree-F.Body [] (record { start = 0; end = 0 })) (rolls-Body _ _)) ∙ ap has_statements e ∙ statements-as _ (Tree-F.Body (s ∷ ss) (across (span_of s) (span_of (last_of s ss)))) (rolls-Body _ _) in
+    absurd (cc)
+
+parted-by : (before : Tree) (ps : List Token) (k : Token) (qs : List Token) → Parted before ps (k ∷ qs) → (body_of [] ≡ before) ⊎ ((t : Token) × Is shape.Separator t × (ps ≡ t ∷ k ∷ qs))
+parted-by before ps k qs (BehindNothing _) = inl refl
+parted-by before ps k qs (BehindSeparator _ t _ is) = inr (t, is, refl)
+
+-- statements end before a separator, where a `rescue` follows
+over-parted : (free : Bool) (s : Tree) (ss : List Tree) (rs ps : List Token) (k : Token) (qs : List Token) → Gap rs ps → Parted (body_of (s ∷ ss)) ps (k ∷ qs) → Is shape.Rescue k → Over free rs (k ∷ qs)
+over-parted free s ss rs ps k qs g parted is = ⊎_elim (λ e. absurd (not-empty s ss e)) (λ h. over-rescue free rs h.0 k qs (subst (λ us. Gap rs us) h.2 g) h.1 is) (parted-by (body_of (s ∷ ss)) ps k qs parted)
 
 module _ (nested : Form → Bool → Parser Tree) (turns : ℕ) (ih : Complete turns nested) where
   pub simple-read : (constants free : Bool) (t : Tree) (xs ys : List Token) → DerivesSimple constants free t xs ys → Ends SIMPLE_ENDS free ys → length xs < turns → Reads (simple nested turns free constants) t xs ys
@@ -114,12 +200,12 @@ module _ (nested : Form → Bool → Parser Tree) (turns : ℕ) (ih : Complete t
   modifiers-read : (free : Bool) (s t : Tree) (xs ys : List Token) → DerivesModified free s t xs ys → Ends STATEMENT_ENDS free ys → (n : ℕ) → length xs < n → length xs < turns → ReadsSome (modifiers_from nested turns free n s) t xs ys
   unfolding modifiers_from modified operators.across
   modifiers-read free s t xs ys d ends zero less fits = absurd (let h : ⊥ = omega arith in h)
-  modifiers-read free s t xs ys (Unmodified _ _ _) ends (suc n) less fits = (ap (λ o. modifiers_by nested turns free (modifiers_from nested turns free n) s o ys) (no-modifier free ys ends), within-self _)
-  modifiers-read free s t xs ys (Modified _ m word _ c _ us ps _ row d e) ends (suc n) less fits =
+  modifiers-read free s t xs ys (Unmodified _ _ _) ends (suc n) less fits = (ap (λ o. modifiers_by nested turns free (modifiers_from nested turns free n) s o ys) (no-modifier-behind s free ys ends), within-self _)
+  modifiers-read free s t xs ys (Modified _ m word _ c _ us ps _ row allows d e) ends (suc n) less fits =
       let r = ih.simple free c us ps fits d (modified-ends free _ t ps ys e ends) in
       let short = past-length r.1 in
       let l = modifiers-read free (tree.Modified s word c (across (span_of s) (span_of c))) t ps ys e ends n (let h : length ps < n = omega arith in h) (let h : length ps < turns = omega arith in h) in
-      (ap (λ o. modifiers_by nested turns free (modifiers_from nested turns free n) s o (m ∷ us)) (a-modifier m us word row) ∙ on _ (on _ r.0 refl) l.0, within-token m (within-more (past-within r.1) l.1))
+      (ap (λ o. modifiers_by nested turns free (modifiers_from nested turns free n) s o (m ∷ us)) (a-modifier-behind s m us word row allows) ∙ on _ (on _ r.0 refl) l.0, within-token m (within-more (past-within r.1) l.1))
 
   pub simply-read : (constants free : Bool) (s t : Tree) (xs ps ys : List Token) → DerivesSimple constants free s xs ps → DerivesModified free s t ps ys → Ends STATEMENT_ENDS free ys → length xs < turns → Reads (statement nested turns free constants) t xs ys
   unfolding statement modifiers
@@ -137,27 +223,27 @@ module _ (nested : Form → Bool → Parser Tree) (turns : ℕ) (ih : Complete t
 
   -- what stands behind a statement of a body
   abbrev Behind : Bool → ℕ → ℕ → ℕ → List Tree → Parser Tree
-  Behind free start end n found = λ rest. if sees shape.Separator rest then body_from nested turns free false start end n found (skip_separators rest) else Ok (tree.Body found (record { start = start; end = end }), rest)
+  Behind free start end n found = λ rest. if sees shape.Separator rest then body_from nested turns free false start end n found (skip_separators rest) else ended found (record { start = start; end = end }) rest
 
-  more-read : (free : Bool) (start : ℕ) (s : Tree) (ss : List Tree) (qs rs ys : List Token) → DerivesMore Inside free ss qs rs → Gap rs ys → Ends BODY_ENDS free ys → (n : ℕ) (found : List Tree) → length qs < n → length qs < turns →
+  last-read : (free : Bool) (start end n : ℕ) (found : List Tree) (rs ys : List Token) → Gap rs ys → Over free rs ys → ReadsSome (Behind free start end (suc n) found) (tree.Body found (record { start = start; end = end })) rs ys
+  unfolding body_from ended
+  last-read free start end n found rs ys (Closed _) o = (passed _ _ o.separated (passed _ _ o.divided refl), within-self _)
+  last-read free start end n found rs ys (Wide t us _ is g) o =
+      (taken _ _ (shown shape.Separator t us is) (ap (λ zs. body_from nested turns free false start end (suc n) found zs) (taken _ _ (shown shape.Separator t us is) (skipped us ys g o.separated)) ∙ passed _ _ o.over refl), within-token t (gap-within us ys g))
+
+  more-read : (free : Bool) (start : ℕ) (s : Tree) (ss : List Tree) (qs rs ys : List Token) → DerivesMore Inside free ss qs rs → Over free rs ys → (n : ℕ) (found : List Tree) → length qs < n → length qs < turns →
       ReadsSome (Behind free start (span_of s).end n found) (tree.Body (found ++ ss) (record { start = start; end = (span_of (last_of s ss)).end })) qs ys
   unfolding body_from same_shape
-  more-read free start s ss qs rs ys d g ends zero found less fits = absurd (let h : ⊥ = omega arith in h)
-  more-read free start s ss qs rs ys (NoMore _ _ _) (Closed _) ends (suc n) found less fits =
-      (passed _ _ (ends-unseen shape.Separator BODY_ENDS refl free ys ends) (ap (λ all. Ok (tree.Body all (record { start = start; end = (span_of s).end }), ys)) (sym (append-nil found))), within-self _)
-  more-read free start s ss qs rs ys (NoMore _ _ _) (Wide t us _ is g) ends (suc n) found less fits =
-      let w = gap-within us ys g in (
-        taken _ _ (shown shape.Separator t us is) (ap (λ zs. body_from nested turns free false start (span_of s).end (suc n) found zs) (taken _ _ (shown shape.Separator t us is) (skipped us ys g (ends-unseen shape.Separator BODY_ENDS refl free ys ends)))
-            ∙ passed _ _ (over free ys ends) (ap (λ all. Ok (tree.Body all (record { start = start; end = (span_of s).end }), ys)) (sym (append-nil found)))),
-        within-token t w,
-      )
-  more-read free start s ss qs rs ys (Another _ _ t next more us ps vs _ is gap d e) g ends (suc n) found less fits =
+  more-read free start s ss qs rs ys d o zero found less fits = absurd (let h : ⊥ = omega arith in h)
+  more-read free start s ss qs rs ys (NoMore _ _ _) o (suc n) found less fits =
+      subst (λ all. ReadsSome (Behind free start (span_of s).end (suc n) found) (tree.Body all (record { start = start; end = (span_of s).end })) qs ys) (sym (append-nil found)) (last-read free start (span_of s).end n found qs ys o.gap o)
+  more-read free start s ss qs rs ys (Another _ _ t next more us ps vs _ is gap d e) o (suc n) found less fits =
       let b = statement-begins free next ps vs d in
       let w = gap-within us ps gap in
       let short = within-length w in
-      let r = statement-read free next ps vs d (more-ends Inside free more vs rs ys e g ends) (let h : length ps < turns = omega arith in h) in
+      let r = statement-read free next ps vs d (more-ends Inside free more vs rs e o.follows) (let h : length ps < turns = omega arith in h) in
       let short2 = past-length r.1 in
-      let l = more-read free start next more vs rs ys e g ends n (found ++ next ∷ []) (let h : length vs < n = omega arith in h) (let h : length vs < turns = omega arith in h) in (
+      let l = more-read free start next more vs rs ys e o n (found ++ next ∷ []) (let h : length vs < n = omega arith in h) (let h : length vs < turns = omega arith in h) in (
         taken _ _ (shown shape.Separator t us is) (ap (λ zs. body_from nested turns free false start (span_of s).end (suc n) found zs) (taken _ _ (shown shape.Separator t us is) (skipped us ps gap (unseen shape.Separator SIMPLE refl ps b)))
             ∙ taken _ _ (begun ps b) (on _ r.0 (l.0 ∙ ap (λ all. Ok (tree.Body all (record { start = start; end = (span_of (last_of next more)).end }), ys)) (append_assoc found (next ∷ []) more)))),
         within-token t (within-more w (within-more (past-within r.1) l.1)),
@@ -170,21 +256,21 @@ module _ (nested : Form → Bool → Parser Tree) (turns : ℕ) (ih : Complete t
       got : Holds {A = Tree} (Ok (t, ys)) (sound.Statement nested s turns free Inside xs) → Starts t xs
       got h = h.told.2
 
-  first-read : (sounds : Sound nested) (free : Bool) (s : Tree) (ss : List Tree) (ps qs rs ys : List Token) → DerivesStatement Inside free s ps qs → DerivesMore Inside free ss qs rs → Gap rs ys → Ends BODY_ENDS free ys → (n : ℕ) → length ps < n → length ps < turns →
+  first-read : (sounds : Sound nested) (free : Bool) (s : Tree) (ss : List Tree) (ps qs rs ys : List Token) → DerivesStatement Inside free s ps qs → DerivesMore Inside free ss qs rs → Over free rs ys → (n : ℕ) → length ps < n → length ps < turns →
       ReadsSome (body_from nested turns free false (start_of ps) 0 n []) (body_of (s ∷ ss)) ps ys
   unfolding body_from
-  first-read sounds free s ss ps qs rs ys d more g ends zero less fits = absurd (let h : ⊥ = omega arith in h)
-  first-read sounds free s ss ps qs rs ys d more g ends (suc n) less fits =
-      let r = statement-read free s ps qs d (more-ends Inside free ss qs rs ys more g ends) fits in
+  first-read sounds free s ss ps qs rs ys d more o zero less fits = absurd (let h : ⊥ = omega arith in h)
+  first-read sounds free s ss ps qs rs ys d more o (suc n) less fits =
+      let r = statement-read free s ps qs d (more-ends Inside free ss qs rs more o.follows) fits in
       let short = past-length r.1 in
       let starts = starts-by sounds free s ps qs _ r.0 (sound.statement-holds nested sounds turns free Inside ps) in
-      let l = more-read free (start_of ps) s ss qs rs ys more g ends n (s ∷ []) (let h : length qs < n = omega arith in h) (let h : length qs < turns = omega arith in h) in
+      let l = more-read free (start_of ps) s ss qs rs ys more o n (s ∷ []) (let h : length qs < n = omega arith in h) (let h : length qs < turns = omega arith in h) in
       (taken _ _ (begun ps (statement-begins free s ps qs d)) (on _ r.0 (l.0 ∙ ap (λ n. Ok (tree.Body (s ∷ ss) (record { start = n; end = (span_of (last_of s ss)).end }), ys)) (sym starts))), within-more (past-within r.1) l.1)
 
-  empty-read : (free : Bool) (ys : List Token) → Ends BODY_ENDS free ys → (n : ℕ) → length ys < n → body_from nested turns free false 0 0 n [] ys ≡ Ok (body_of [], ys)
+  empty-read : (free : Bool) (ys : List Token) → begins_statement ys ≡ false → (n : ℕ) → length ys < n → body_from nested turns free false 0 0 n [] ys ≡ Ok (body_of [], ys)
   unfolding body_from
-  empty-read free ys ends zero less = absurd (let h : ⊥ = omega arith in h)
-  empty-read free ys ends (suc n) less = passed _ _ (over free ys ends) refl
+  empty-read free ys e zero less = absurd (let h : ⊥ = omega arith in h)
+  empty-read free ys e (suc n) less = passed _ _ e refl
 
   start-begun : (xs : List Token) → begins_statement xs ≡ true → body_start xs ≡ start_of xs
   start-begun xs e = taken _ _ e refl
@@ -192,21 +278,43 @@ module _ (nested : Form → Bool → Parser Tree) (turns : ℕ) (ih : Complete t
   start-over : (xs : List Token) → begins_statement xs ≡ false → body_start xs ≡ 0
   start-over xs e = passed _ _ e refl
 
-  pub body-read : (sounds : Sound nested) (free : Bool) (t : Tree) (xs ys : List Token) → DerivesBody Inside free t xs ys → Ends BODY_ENDS free ys → length xs < turns → ReadsSome (spec.body nested turns free false) t xs ys
-  unfolding spec.body statements same_shape
-  body-read sounds free t xs ys (NoStatement _ _ _ _ g) ends fits =
+  -- a body without statements
+  none-read : (free : Bool) (xs ys : List Token) → Gap xs ys → begins_statement ys ≡ false → sees shape.Separator ys ≡ false → length xs < turns → ReadsSome (spec.body nested turns free false) (body_of []) xs ys
+  unfolding spec.body statements
+  none-read free xs ys g e f fits =
       let w = gap-within xs ys g in
       let short = within-length w in (
-        ap (λ zs. body_from nested turns free false (body_start zs) 0 turns [] zs) (skipped xs ys g (ends-unseen shape.Separator BODY_ENDS refl free ys ends))
-            ∙ ap (λ n. body_from nested turns free false n 0 turns [] ys) (start-over ys (over free ys ends)) ∙ empty-read free ys ends turns (let h : length ys < turns = omega arith in h),
+        ap (λ zs. body_from nested turns free false (body_start zs) 0 turns [] zs) (skipped xs ys g f)
+            ∙ ap (λ n. body_from nested turns free false n 0 turns [] ys) (start-over ys e) ∙ empty-read free ys e turns (let h : length ys < turns = omega arith in h),
         w,
       )
-  body-read sounds free t xs ys (Statements _ _ s ss _ ps qs rs _ g d more end) ends fits =
+
+  -- one with statements
+  some-read : (sounds : Sound nested) (free : Bool) (s : Tree) (ss : List Tree) (xs ps qs rs ys : List Token) → Gap xs ps → DerivesStatement Inside free s ps qs → DerivesMore Inside free ss qs rs → Over free rs ys → length xs < turns →
+      ReadsSome (spec.body nested turns free false) (body_of (s ∷ ss)) xs ys
+  unfolding spec.body statements same_shape
+  some-read sounds free s ss xs ps qs rs ys g d more o fits =
       let b = statement-begins free s ps qs d in
       let w = gap-within xs ps g in
       let short = within-length w in
-      let r = first-read sounds free s ss ps qs rs ys d more end ends turns (let h : length ps < turns = omega arith in h) (let h : length ps < turns = omega arith in h) in (
+      let r = first-read sounds free s ss ps qs rs ys d more o turns (let h : length ps < turns = omega arith in h) (let h : length ps < turns = omega arith in h) in (
         ap (λ zs. body_from nested turns free false (body_start zs) 0 turns [] zs) (skipped xs ps g (unseen shape.Separator SIMPLE refl ps b))
             ∙ ap (λ n. body_from nested turns free false n 0 turns [] ps) (start-begun ps (begun ps b)) ∙ r.0,
         within-more w r.1,
       )
+
+  pub body-read : (sounds : Sound nested) (free : Bool) (t : Tree) (xs ys : List Token) → DerivesBody Inside free t xs ys → Ends BODY_ENDS free ys → length xs < turns → ReadsSome (spec.body nested turns free false) t xs ys
+  unfolding same_shape
+  body-read sounds free t xs ys (NoStatement _ _ _ _ g) ends fits = none-read free xs ys g (over free ys ends) (ends-unseen shape.Separator BODY_ENDS refl free ys ends) fits
+  body-read sounds free t xs ys (Statements _ _ s ss _ ps qs rs _ g d more end) ends fits = some-read sounds free s ss xs ps qs rs ys g d more (over-ends free rs ys end ends) fits
+
+  -- separators before a `rescue` are passed over
+  rescue-gap : (xs ps : List Token) (before : Tree) (k : Token) (qs : List Token) → Gap xs ps → Parted before ps (k ∷ qs) → Gap xs (k ∷ qs)
+  rescue-gap xs ps before k qs g (BehindNothing _) = g
+  rescue-gap xs ps before k qs g (BehindSeparator _ t _ is) = (gap-before xs t (k ∷ qs) g is).4
+
+  -- up to a `rescue`
+  pub rescued-read : (sounds : Sound nested) (free : Bool) (t : Tree) (xs ps qs : List Token) (k : Token) → DerivesBody Inside free t xs ps → Parted t ps (k ∷ qs) → Is shape.Rescue k → length xs < turns → ReadsSome (spec.body nested turns free false) t xs (k ∷ qs)
+  unfolding same_shape
+  rescued-read sounds free t xs ps qs k (NoStatement _ _ _ _ g) parted is fits = none-read free xs (k ∷ qs) (rescue-gap xs ps t k qs g parted) (no-statement k qs is) (other shape.Separator shape.Rescue k qs is refl) fits
+  rescued-read sounds free t xs ps qs k (Statements _ _ s ss _ us vs rs _ g d more end) parted is fits = some-read sounds free s ss xs us vs rs (k ∷ qs) g d more (over-parted free s ss rs ps k qs end parted is) fits

@@ -14,7 +14,7 @@ use Rattle.rb_grammar_laws.specs.Ends.{BODY_ENDS}
 abbrev pub OPERANDS : List Shape
 OPERANDS =
     shape.Identifier ∷ shape.Constant ∷ shape.InstanceVariable ∷ shape.Symbol ∷ shape.Whole ∷ shape.Float ∷ shape.Text ∷ shape.SelfWord
-    ∷ shape.Nil ∷ shape.True ∷ shape.False ∷ shape.Yield ∷ shape.Super ∷ shape.Case ∷ shape.Scope ∷ shape.OpenParen ∷ shape.OpenBracket
+    ∷ shape.Nil ∷ shape.True ∷ shape.False ∷ shape.Yield ∷ shape.Super ∷ shape.Case ∷ shape.Begin ∷ shape.Scope ∷ shape.OpenParen ∷ shape.OpenBracket
     ∷ shape.OpenBrace ∷ shape.If ∷ shape.Unless ∷ shape.While ∷ shape.Until ∷ []
 
 -- a term, or another value

@@ -12,9 +12,10 @@ use Rattle.rb_rules.specs.Tokens.{Is, IsAny}
 
 -- ---- lists of shapes, from the narrowest on
 
--- a body; no form without declarations goes on with a `def` either
+-- a body; no form without declarations goes on with a `def` either. A `rescue` ends one too, but only where a separator or nothing
+-- parts the two, so it is none of these
 abbrev pub BODY_ENDS : List Shape
-BODY_ENDS = shape.End ∷ shape.Elsif ∷ shape.Else ∷ shape.When ∷ shape.CloseParen ∷ shape.CloseBrace ∷ shape.Def ∷ []
+BODY_ENDS = shape.End ∷ shape.Elsif ∷ shape.Else ∷ shape.When ∷ shape.Ensure ∷ shape.CloseParen ∷ shape.CloseBrace ∷ shape.Def ∷ []
 
 -- a statement of a body
 abbrev pub STATEMENT_ENDS : List Shape
@@ -54,7 +55,7 @@ ASSIGNING =
 abbrev pub BARE : List Shape
 BARE =
     shape.Label ∷ shape.Identifier ∷ shape.Constant ∷ shape.InstanceVariable ∷ shape.Symbol ∷ shape.Whole ∷ shape.Float ∷ shape.Text
-    ∷ shape.Not ∷ shape.Tilde ∷ shape.SelfWord ∷ shape.Nil ∷ shape.True ∷ shape.False ∷ shape.Yield ∷ shape.Super ∷ shape.Case ∷ []
+    ∷ shape.Not ∷ shape.Tilde ∷ shape.SelfWord ∷ shape.Nil ∷ shape.True ∷ shape.False ∷ shape.Yield ∷ shape.Super ∷ shape.Case ∷ shape.Begin ∷ []
 
 -- an operand with its suffixes
 abbrev pub OPERAND_ENDS : List Shape

@@ -34,3 +34,11 @@ abbrev pub INNER : List Token
 INNER =
     token kind.Def 0 3 ∷ token (kind.Identifier (codes "f")) 4 5 ∷ token kind.OpenParen 5 6 ∷ token kind.CloseParen 6 7 ∷ token (kind.Constant (codes "X")) 8 9 ∷ token kind.Assign 10 11
     ∷ token (kind.Whole (codes "1")) 12 13 ∷ token kind.End 14 17 ∷ []
+
+-- `begin a rescue; end`: no separator stands before the `rescue`
+abbrev pub UNDIVIDED : List Token
+UNDIVIDED = token kind.Begin 0 5 ∷ token (kind.Identifier (codes "a")) 6 7 ∷ token kind.Rescue 8 14 ∷ token kind.Separator 14 15 ∷ token kind.End 16 19 ∷ []
+
+-- `begin end while a`: a `begin` alone is no body of a loop
+abbrev pub REPEATED : List Token
+REPEATED = token kind.Begin 0 5 ∷ token kind.End 6 9 ∷ token kind.While 10 15 ∷ token (kind.Identifier (codes "a")) 16 17 ∷ []

@@ -1,16 +1,17 @@
 -- What derives is what the parser answers, and no tokens have two trees.
-use Rattle.std.specs.Prelude.{◌≡◌, ◌↔◌, ℕ, suc, ◌+◌, ◌<◌, ◌≤◌, Bool, false, List, length, Ok, Err}
+use Rattle.std.specs.Prelude.{◌≡◌, ◌↔◌, ℕ, suc, ◌+◌, ◌<◌, ◌≤◌, Bool, false, List, [], ◌∷◌, length, Ok, Err}
 use Rattle.rb_tree.specs.declared.syntax.Tree.{Tree}
 use Rattle.rb_tree.specs.declared.token.Token.{Token}
+use Rattle.rb_tree.specs.declared.token.Shape.TheVariants as shape
 use Rattle.rb_weight.specs.Weights.{DeepAt}
 use Rattle.rb_expr.specs.declared.ParseEnd.{ParseEnd}
 use Rattle.rb_expr.specs.declared.form.Form.{Form}
 use Rattle.rb_expr.specs.declared.form.Form.TheVariants as form
 use Rattle.rb_expr.specs.Grammar.{parsed}
 use Rattle.rb_decl.specs.Programs.{program, parsed as parsed_program}
-use Rattle.rb_rules.specs.Tokens.{StartsWith}
+use Rattle.rb_rules.specs.Tokens.{Is, StartsWith}
 use Rattle.rb_rules.specs.Forms.{Inside}
-use Rattle.rb_rules.specs.Grammar.{Derives, DerivesBody, DerivesTerm, DerivesSimple, DerivesValue, DerivesLevel, DerivesPrefixed}
+use Rattle.rb_rules.specs.Grammar.{Parted, Derives, DerivesBody, DerivesTerm, DerivesSimple, DerivesValue, DerivesLevel, DerivesPrefixed}
 use Rattle.rb_grammar_laws.specs.Begins.{TERMS, SIMPLE, BODIES}
 use Rattle.rb_grammar_laws.specs.Ends.{Ends, BODY_ENDS, EndsForm}
 
@@ -25,6 +26,10 @@ SimpleBegin = (constants free : Bool) (t : Tree) (tokens rest : List Token) → 
 -- a body may be empty
 abbrev pub BodiesBegin : Type 0
 BodiesBegin = (free : Bool) (t : Tree) (tokens rest : List Token) → DerivesBody Inside free t tokens rest → Ends BODY_ENDS free rest → Ends BODIES false tokens
+
+-- one before a `rescue` too
+abbrev pub RescuedBegin : Type 0
+RescuedBegin = (free : Bool) (t : Tree) (tokens rest : List Token) → DerivesBody Inside free t tokens rest → StartsWith (shape.Rescue ∷ []) rest → Ends (shape.Rescue ∷ BODIES) false tokens
 
 -- ---- forms
 
@@ -41,6 +46,10 @@ DerivesAs form.Prefixed free t xs ys = DerivesPrefixed free t xs ys
 -- What derives as a form, before tokens that end one, is read of it: this tree, and those tokens are left.
 abbrev pub FormsAnswer : Type 0
 FormsAnswer = (depth : ℕ) (f : Form) (free : Bool) (tokens rest : List Token) (t : Tree) → suc (length tokens) < depth → DerivesAs f free t tokens rest → EndsForm f free rest → parsed depth f free tokens ≡ Ok (t, rest)
+
+-- So is a body before a `rescue` that a separator or nothing parts from it, up to the `rescue`.
+abbrev pub RescuedAnswer : Type 0
+RescuedAnswer = (depth : ℕ) (free : Bool) (tokens xs rest : List Token) (k : Token) (t : Tree) → suc (length tokens) < depth → DerivesBody Inside free t tokens xs → Parted t xs (k ∷ rest) → Is shape.Rescue k → parsed depth form.Body free tokens ≡ Ok (t, k ∷ rest)
 
 -- So a form has one tree, and ends at one place.
 abbrev pub OneReading : Type 0

@@ -5,19 +5,22 @@
 //! behind them, so that a form is read to its end and no further.
 #![tactic(auto)]
 
-ghost use Rattle.rb_grammar_laws.specs.Examples.{APART, DISORDER, EQUALITIES, HasNoTree, INNER, TWICE};
-ghost use Rattle.rb_grammar_laws.specs.Laws.{BodiesBegin, FormsAnswer, OneReading, OneTree, ParsedExactly, ProgramsAnswer, RefusedAreNone, SimpleBegin, TermsBegin};
+ghost use Rattle.rb_grammar_laws.specs.Examples.{APART, DISORDER, EQUALITIES, HasNoTree, INNER, REPEATED, TWICE, UNDIVIDED};
+ghost use Rattle.rb_grammar_laws.specs.Laws.{BodiesBegin, FormsAnswer, OneReading, OneTree, ParsedExactly, ProgramsAnswer, RefusedAreNone, RescuedAnswer, RescuedBegin, SimpleBegin, TermsBegin};
 
-/// The first token of a term, of a simple statement and of a body is one of these.
+/// The first token of a term, of a simple statement and of a body is one of these, also where a `rescue` follows the body.
 pub fn forms_begin()
     ensures terms { TermsBegin }
     ensures simple { SimpleBegin }
     ensures bodies { BodiesBegin }
+    ensures rescued { RescuedBegin }
 {}
 
-/// What derives as a form, before tokens that end one, is read of it. So a form has one tree, and ends at one place.
+/// What derives as a form, before tokens that end one, is read of it; so is a body before a `rescue` that a separator or nothing
+/// parts from it. So a form has one tree, and ends at one place.
 pub fn forms_answer()
     ensures read { FormsAnswer }
+    ensures rescued { RescuedAnswer }
     ensures one { OneReading }
 {}
 
@@ -41,4 +44,6 @@ pub fn examples_have_none()
     ensures disorder { HasNoTree DISORDER }
     ensures twice { HasNoTree TWICE }
     ensures inner { HasNoTree INNER }
+    ensures undivided { HasNoTree UNDIVIDED }
+    ensures repeated { HasNoTree REPEATED }
 {}

@@ -1,4 +1,4 @@
-use Rattle.rb_grammar_laws.proofs.Examples.{equalities-none, apart-none, disorder-none, twice-none, inner-none}
+use Rattle.rb_grammar_laws.proofs.Examples.{equalities-none, apart-none, disorder-none, twice-none, inner-none, undivided-none, repeated-none}
 use Rattle.rb_grammar_laws.proofs.examples_have_none.Goals as goal
 
 pub returns-clause-equalities : goal.returns-clause-equalities
@@ -15,3 +15,9 @@ returns-clause-twice c = twice-none
 
 pub returns-clause-inner : goal.returns-clause-inner
 returns-clause-inner c = inner-none
+
+pub returns-clause-undivided : goal.returns-clause-undivided
+returns-clause-undivided c = undivided-none
+
+pub returns-clause-repeated : goal.returns-clause-repeated
+returns-clause-repeated c = repeated-none
