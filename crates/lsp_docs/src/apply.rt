@@ -48,7 +48,7 @@ fn open_new(
         });
     }
     let text = new_text(alloc, rows.total(), text)?;
-    rows.insert(alloc, index, path, text)?;
+    rows.insert(index, path, text)?;
     Ok(())
 }
 

@@ -14,19 +14,19 @@ pub fn placed(alloc: Global, text: &Text, errors: &[Diag]) -> Result<Items<Place
 {
     let mut list = Items::new(alloc);
     'errors: for error in errors {
-        list.push(placed_one(alloc, text, error)?)?;
+        list.push(placed_one(text, error)?)?;
     }
     Ok(list)
 }
 
-fn placed_one(alloc: Global, text: &Text, error: &Diag) -> Result<Placed, NoMemory>
+fn placed_one(text: &Text, error: &Diag) -> Result<Placed, NoMemory>
     ensures { IfOk result (λ one. (agreed : Agreed) → one ≡ placed agreed (encode_utf8_all text.now) error.now) }
 {
     Ok(Placed {
         start: position(text, error.span.start),
         end: position(text, error.span.end),
         number: error.number,
-        text: error.text.copied(alloc)?,
+        text: error.text.copied()?,
     })
 }
 

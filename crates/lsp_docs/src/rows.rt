@@ -44,7 +44,7 @@ impl Rows {
         let mut total = 0;
         'files: for file in files.files() {
             list.push(Row {
-                path: file.path().copied(alloc)?,
+                path: file.path().copied()?,
                 saved: Some(Items::from_slice(alloc, file.bytes())?),
                 text: None,
             })?;
@@ -118,13 +118,7 @@ impl Rows {
     }
 
     /// Adds an open row before that at `index`.
-    pub fn insert(
-        &mut self,
-        alloc: Global,
-        index: usize,
-        path: &Name,
-        text: Text,
-    ) -> Result<(), NoMemory>
+    pub fn insert(&mut self, index: usize, path: &Name, text: Text) -> Result<(), NoMemory>
         requires place { IsPlaceOf path.now self.old index }
         requires room { length self.old < MOST_FILES }
         requires fits { total_bytes (project_of self.old) + length (encode_utf8_all text) ≤ MOST_BYTES }
@@ -133,7 +127,7 @@ impl Rows {
     {
         let size = text.as_str().len();
         let row = Row {
-            path: path.copied(alloc)?,
+            path: path.copied()?,
             saved: None,
             text: Some(text),
         };

@@ -266,7 +266,7 @@ fn places(docs: &Docs, alloc: Global, start: u32, end: u32) -> Result<String, Fa
     let error = Diag {
         span: Span { start, end },
         number: 2001,
-        text: Words::new(alloc),
+        text: Words::from_str(alloc, "")?,
     };
     let list = docs.placed(alloc, &path, &[error])?;
     let one = list.get(0).ok_or("no error")?;

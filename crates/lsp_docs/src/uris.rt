@@ -70,7 +70,7 @@ pub fn uri_below(alloc: Global, root: &str, path: &Name) -> Result<Words, NoMemo
     let mut uri = String::from_str(alloc, root)?;
     uri.push('/')?;
     percent_encode(path.as_bytes(), ESCAPED).append_to(&mut uri)?;
-    Ok(Words::from_string(uri))
+    Words::from_string(uri)
 }
 
 /// The path that a URI names below a root. `None` exactly where it names none.
