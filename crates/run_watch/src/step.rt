@@ -47,13 +47,13 @@ impl Step {
                 list,
                 shown,
             } => Ok(Step::Work {
-                path: path.copied(alloc)?,
+                path: path.copied()?,
                 epoch: *epoch,
                 list: copied_list(alloc, list.as_slice())?,
                 shown: *shown,
             }),
             Step::Dropped { path } => Ok(Step::Dropped {
-                path: path.copied(alloc)?,
+                path: path.copied()?,
             }),
             Step::Idle => Ok(Step::Idle),
         }
@@ -65,7 +65,7 @@ fn copied_list(alloc: Global, list: &[Diag]) -> Result<Items<Diag>, NoMemory>
 {
     let mut copy = Items::new(alloc);
     'list: for error in list {
-        copy.push(error.copied(alloc)?)?;
+        copy.push(error.copied()?)?;
     }
     Ok(copy)
 }
