@@ -72,7 +72,7 @@ fn copied_list(alloc: Global, list: &[Diag]) -> Result<Items<Diag>, NoMemory>
 {
     let mut copy = Items::new(alloc);
     'list: for error in list {
-        copy.push(error.copied(alloc)?)?;
+        copy.push(error.copied()?)?;
     }
     Ok(copy)
 }
@@ -90,7 +90,7 @@ pub fn landed_of(
     ensures { IfOk result (λ landed. landed ≡ landed_by docs.now path.now epoch list.now shown) }
 {
     let step = Step::Work {
-        path: path.copied(alloc)?,
+        path: path.copied()?,
         epoch,
         list: copied_list(alloc, list)?,
         shown,

@@ -140,7 +140,7 @@ impl Core {
                 return self.take_document(alloc, &msg);
             }
             Msg::Shutdown { id } => {
-                self.owing = Some(id.copied(alloc)?);
+                self.owing = Some(id.copied()?);
                 self.phase = Phase::Closing;
             }
             _ => {}

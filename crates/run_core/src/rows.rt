@@ -126,15 +126,15 @@ fn opening_list(alloc: Global, files: &[ProjectFile]) -> Result<Vec<Row>, NoMemo
 {
     let mut list = Vec::with_capacity(alloc, files.len())?;
     'files: for file in files {
-        list.push(opening_row(alloc, file)?)?;
+        list.push(opening_row(file)?)?;
     }
     Ok(list)
 }
 
-fn opening_row(alloc: Global, file: &ProjectFile) -> Result<Row, NoMemory>
+fn opening_row(file: &ProjectFile) -> Result<Row, NoMemory>
     ensures { IfOk result (λ row. row ≡ opening_row file.now) }
 {
-    let mut row = new_row(file.path().copied(alloc)?);
+    let mut row = new_row(file.path().copied()?);
     row.present = true;
     Ok(row)
 }
@@ -156,17 +156,17 @@ fn present_in(alloc: Global, rows: &[Row]) -> Result<Items<Name>, NoMemory>
 {
     let mut paths = Items::new(alloc);
     'rows: for row in rows {
-        push_present(alloc, &mut paths, row)?;
+        push_present(&mut paths, row)?;
     }
     Ok(paths)
 }
 
 // Adds the path of the row if the project has a file there.
-fn push_present(alloc: Global, paths: &mut Items<Name>, row: &Row) -> Result<(), NoMemory>
+fn push_present(paths: &mut Items<Name>, row: &Row) -> Result<(), NoMemory>
     ensures { OnOk result (paths.new ≡ paths.old ++ path_if mark.Present row.now) }
 {
     if row.present {
-        paths.push(row.path.copied(alloc)?)?;
+        paths.push(row.path.copied()?)?;
     }
     Ok(())
 }

@@ -5,4 +5,3 @@ pub mod Readings
 pub mod Records
 pub mod Checks
 pub mod Reports
-pub mod Placed

@@ -77,7 +77,7 @@ fn record_errors(alloc: Global, file: &FileRec) -> Result<Vec<Diag>, AllocError>
     ensures { IfOk result (λ ds. ds.items ≡ record_errors file.now) }
 {
     match &file.error {
-        Some(error) => one_error(alloc, error.copied(alloc)?),
+        Some(error) => one_error(alloc, error.copied()?),
         None => tree_errors(alloc, file.level, &file.tree),
     }
 }

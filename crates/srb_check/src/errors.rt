@@ -85,20 +85,20 @@ fn class_name(class: Class) -> &'static str
 fn expected_text(alloc: Global, asserted: Class, found: Class) -> Result<Words, AllocError>
     ensures { IfOk result (λ t. t ≡ codes "expected " ++ class_name asserted ++ codes ", found " ++ class_name found) }
 {
-    let mut text = Words::from_str(alloc, "expected ")?;
+    let mut text = String::from_str(alloc, "expected ")?;
     text.push_str(class_name(asserted))?;
     text.push_str(", found ")?;
     text.push_str(class_name(found))?;
-    Ok(text)
+    Words::from_string(text)
 }
 
 /// The text that tells a type.
 fn type_text(alloc: Global, found: Class) -> Result<Words, AllocError>
     ensures { IfOk result (λ t. t ≡ codes "type is " ++ class_name found) }
 {
-    let mut text = Words::from_str(alloc, "type is ")?;
+    let mut text = String::from_str(alloc, "type is ")?;
     text.push_str(class_name(found))?;
-    Ok(text)
+    Words::from_string(text)
 }
 
 /// Whether both are the same class.

@@ -1,17 +1,9 @@
-//! What holds of the errors of every file. Each law is the contract of a function that does nothing.
+//! What holds of the places of every text. The law is the contract of a function that does nothing.
 
 ghost use Rattle.std.specs.Prelude.{◌≡◌, ℕ, List, chars};
 ghost use Rattle.std.specs.Str.{IsUtf8};
 ghost use Rattle.srb_text.specs.Positions.{IsStart, position_of, one};
-ghost use Rattle.srb_check.specs.Checks.{errors_of};
-ghost use Rattle.srb_check.specs.Placed.{AreAtPlaces};
 ghost use Rattle.srb_check.specs.Reports.{place_of, position_at};
-
-/// Each error of a file starts and ends at the file's start, or else where a character of UTF-8 starts or the file ends, and it
-/// doesn't end before it starts.
-pub fn errors_are_at_places()
-    ensures { (bytes : List ℕ) → AreAtPlaces bytes (errors_of bytes) }
-{}
 
 /// The place that a report gives an offset is its position in the text's characters, each of which counts one.
 pub fn places_are_positions()

@@ -50,6 +50,8 @@ fn texts_that_are_no_program(rt: HostRuntime) -> Result<(), Fail> {
             ("# typed: ignore\n\"", ""),
             ("# typed: strong\nx = ", "f:2:5: 2001 syntax error\n"),
             ("x = 'é' + é", "f:1:11: 9001 outside the profile\n"),
+            ("begin\n  1\nend while f", "f:3:5: 2001 syntax error\n"),
+            ("retry", "f:1:1: 9001 outside the profile\n"),
         ],
     )
 }
@@ -97,7 +99,7 @@ fn built_trees(rt: HostRuntime) -> Result<(), Fail> {
 }
 
 /// Statements of trees that aren't built.
-const NOT_BUILT: [&str; 33] = [
+const NOT_BUILT: [&str; 35] = [
     "f(-1)",
     "1234567890123456789",
     "-1",
@@ -131,6 +133,8 @@ const NOT_BUILT: [&str; 33] = [
     "xY = 1",
     "@x = 1",
     "1 if true",
+    "begin\n  f\nrescue A => e\n  g\nelse\n  h\nensure\n  i\nend",
+    "def m\n  f\nrescue\n  g\nend",
 ];
 
 #[test]
@@ -163,6 +167,15 @@ fn nested(alloc: Global, depth: usize) -> Result<Vec<u8>, AllocError> {
     Ok(source)
 }
 
+/// The sum of 1 and as many further ones.
+fn summed(alloc: Global, count: usize) -> Result<Vec<u8>, AllocError> {
+    let mut source = b"1".to_vec(alloc)?;
+    for _ in 0..count {
+        source.extend_from_slice(b"+1")?;
+    }
+    Ok(source)
+}
+
 /// A text of so many bytes behind this front.
 fn padded(alloc: Global, front: &[u8], size: usize) -> Result<Vec<u8>, AllocError> {
     let mut source = front.to_vec(alloc)?;
@@ -180,6 +193,11 @@ fn limits_of_a_file(rt: HostRuntime) -> Result<(), Fail> {
         (
             nested(alloc, 201)?,
             "f:1:201: 9008 nesting is deeper than 200\n",
+        ),
+        (summed(alloc, 200)?, ""),
+        (
+            summed(alloc, 201)?,
+            "f:1:402: 9008 nesting is deeper than 200\n",
         ),
         (padded(alloc, b"", 1_048_576)?, ""),
         (

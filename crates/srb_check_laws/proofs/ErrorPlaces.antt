@@ -27,11 +27,11 @@ use Rattle.srb_check.specs.declared.reading.Reading.TheVariants.{Program, Refuse
 use Rattle.srb_check.specs.Built.{built}
 use Rattle.srb_check.specs.Checks.{LARGEST_FILE, hides_all, shows_types, reading_errors, text_errors, errors_of}
 use Rattle.srb_check.specs.Messages.{class_name, too_large, not_utf8, is_same_class, expression_errors, expressions_errors, judged}
-use Rattle.srb_check.specs.Placed.{IsPlace, AreAtPlaces}
+use Rattle.srb_check_laws.specs.Placed.{IsPlace, AreAtPlaces}
 use Rattle.srb_check.specs.Readings.{lex_error, parse_error, parsed_reading, lexed_reading, read}
-use Rattle.srb_check.proofs.BuiltPlaces.{IsExpressionAt, built-placed}
-use Rattle.srb_check.proofs.CharacterPlaces.{text-start, character-end}
-use Rattle.srb_check.proofs.TokenPlaces.{InText, placed-in_text, token_place-in_text}
+use Rattle.srb_check_laws.proofs.BuiltPlaces.{IsExpressionAt, built-placed}
+use Rattle.srb_check_laws.proofs.CharacterPlaces.{text-start, character-end}
+use Rattle.srb_check_laws.proofs.TokenPlaces.{InText, placed-in_text, token_place-in_text}
 
 -- ---- what a text is read to
 

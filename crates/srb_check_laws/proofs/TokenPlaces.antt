@@ -8,7 +8,7 @@ use Rattle.rb_lex_laws.specs.Tokens.{StandInOrder}
 use Rattle.rb_rules.specs.Tokens.{IsOneOf}
 use Rattle.rb_grammar.specs.Places.{AreInOrder, IsPlaced}
 use Rattle.srb_check.specs.Readings.{begins_at, token_place}
-use Rattle.srb_check.proofs.CharacterPlaces.{text-end}
+use Rattle.srb_check_laws.proofs.CharacterPlaces.{text-end}
 
 -- a place starts and ends where a character of the text starts or the text ends, and doesn't end before it starts
 abbrev pub InText : List ℕ → Span → Type 0

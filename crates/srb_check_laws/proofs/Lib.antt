@@ -1,0 +1,4 @@
+pub mod CharacterPlaces
+pub mod TokenPlaces
+pub mod BuiltPlaces
+pub mod ErrorPlaces
