@@ -15,8 +15,15 @@ use Rattle.rb_rules.specs.Forms.{Site, Top, Inside, is_open}
 use Rattle.rb_tree.specs.declared.token.TokenKind.TheVariants as kind
 use Rattle.rb_grammar.specs.Examples.{digit, from_to, token}
 use Rattle.rb_rules.specs.Grammar.{Derives, body_of, DerivesBody, DerivesLevel, DerivesPrimary, DerivesSimple, DerivesStatement, DerivesTerm}
-use Rattle.rb_rules.specs.Grammar.Gap.{Closed}
-use Rattle.rb_rules.specs.Grammar.Then.{Word}
+use Rattle.rb_rules.specs.Grammar.Gap.{Closed, Wide}
+use Rattle.rb_rules.specs.Grammar.Then.{Word, Line}
+use Rattle.rb_rules.specs.Grammar.Parted.{BehindSeparator}
+use Rattle.rb_rules.specs.Grammar.RescueVariable.{Bound}
+use Rattle.rb_rules.specs.Grammar.DerivesGuarded.{Unrescued, Rescued}
+use Rattle.rb_rules.specs.Grammar.DerivesRescues.{NoRescue, MoreRescues}
+use Rattle.rb_rules.specs.Grammar.DerivesRaised.{SomeErrors}
+use Rattle.rb_rules.specs.Grammar.DerivesEnsure.{NoEnsure}
+use Rattle.rb_rules.specs.Grammar.DerivesPatterns.{LastPattern}
 use Rattle.rb_rules.specs.Grammar.BarNames.{LastBar}
 use Rattle.rb_rules.specs.Grammar.Bars.{SomeBars}
 use Rattle.rb_rules.specs.Grammar.MethodName.{Plain}
@@ -32,7 +39,7 @@ use Rattle.rb_rules.specs.Grammar.DerivesLevel.{Tighter, FromLeft, Plainly}
 use Rattle.rb_rules.specs.Grammar.DerivesPrefixed.{Posted}
 use Rattle.rb_rules.specs.Grammar.DerivesOperand.{Bare}
 use Rattle.rb_rules.specs.Grammar.DerivesBlock.{Braces}
-use Rattle.rb_rules.specs.Grammar.DerivesPrimary.{WholeNumber, NameAlone, CallWithBlock, Branches, Loops}
+use Rattle.rb_rules.specs.Grammar.DerivesPrimary.{WholeNumber, ConstantName, NameAlone, CallWithBlock, Branches, Loops, Guards}
 use Rattle.rb_rules.specs.Grammar.DerivesArms.{NoArm}
 use Rattle.rb_rules.specs.Grammar.DerivesElse.{NoElse}
 use Rattle.rb_rules.specs.Grammar.DerivesDeclaration.{Method}
@@ -44,7 +51,7 @@ use Rattle.rb_weight.specs.Weights.{begun, within}
 use Rattle.rb_weight_laws.specs.Roles.{Role, roles}
 use Rattle.rb_weight_laws.specs.Weights.{within as levels_within}
 use Rattle.rb_weight_laws.specs.Laws.{role_of, roles_told}
-use Rattle.rb_weight_laws.specs.Examples.{MODIFIED, MODIFIED_TREE, ModifierCounts, LOOP, LOOP_TREE, LoopOpensOnce, BLOCK, BLOCK_TREE, BarsCountNot, METHOD, METHOD_TREE, BodyBeginsByIf, BlockWeighs, MethodWeighs}
+use Rattle.rb_weight_laws.specs.Examples.{MODIFIED, MODIFIED_TREE, ModifierCounts, LOOP, LOOP_TREE, LoopOpensOnce, BLOCK, BLOCK_TREE, BarsCountNot, METHOD, METHOD_TREE, BodyBeginsByIf, GUARDED, GUARDED_TREE, RescueDivides, BlockWeighs, MethodWeighs}
 use Rattle.rb_weight_laws.proofs.Laws.{roles-are-told}
 
 -- ---- derivations
@@ -82,7 +89,7 @@ simply at {free = free} {t = t} {xs = xs} {ys = ys} d = body-with (Simply at fre
 modified : Derives MODIFIED MODIFIED_TREE
 unfolding syntax.out-Tree carrier.out tokens.shape_of trees.span_of
 modified = body-with (Simply Top true (tree.Name (codes "x") (from_to 0 1)) _ MODIFIED _ [] (name-of true true _ (codes "x") _ refl)
-    (Modified true _ modifier.If _ _ _ _ [] [] (inl (refl, refl)) (name-of false true _ (codes "y") [] refl) (Unmodified true _ [])))
+    (Modified true _ modifier.If _ _ _ _ [] [] (inl (refl, refl)) (inl refl) (name-of false true _ (codes "y") [] refl) (Unmodified true _ [])))
 
 loop : Derives LOOP LOOP_TREE
 unfolding syntax.out-Tree carrier.out tokens.shape_of trees.span_of
@@ -109,9 +116,25 @@ method : Derives METHOD METHOD_TREE
 unfolding syntax.out-Tree carrier.out tokens.shape_of trees.span_of
 method = body-with (Declared Top true _ METHOD [] refl (Method Top _ METHOD []
     (Def None None _ _ false (codes "f") (from_to 4 5) [] _ _ _ _ _ [] refl (Other _) (Plain _ (codes "f") _ refl) (EmptyParens _ _ _ _ refl (Closed _) refl) tt tt
+    (Unrescued true _ None _ _ _
     (simply Inside (simple-of false
     (Branches true _ _ test.Positive _ _ [] None _ _ _ _ _ _ (inl (refl, refl)) (name-of false true _ (codes "x") _ refl) (Word _ _ refl) (simply Inside (name-of false true _ (codes "y") _ refl)) (NoArm true _) (inl refl) (NoElse true _) refl)))
+    (NoEnsure true _))
     refl)))
+
+-- a name alone is a statement
+name-alone : (t : Token) (w : List ℕ) (xs : List Token) → IsIdentifier t w → DerivesStatement Inside true (tree.Name w t.span) (t ∷ xs) xs
+name-alone t w xs is = Simply Inside true (tree.Name w t.span) (tree.Name w t.span) (t ∷ xs) xs xs (name-of false true t w xs is) (Unmodified true _ xs)
+
+guarded : Derives GUARDED GUARDED_TREE
+unfolding syntax.out-Tree carrier.out tokens.shape_of trees.span_of
+guarded = simply Top (simple-of true
+    (Guards true _ _ _ _ [] refl
+    (Rescued true _ _ [] None None _ _ _ _ _ (Statements Inside true _ [] _ _ _ _ _ (Wide _ _ _ refl (Closed _)) (name-alone _ (codes "x") _ refl) (NoMore Inside true _) (Closed _))
+    (MoreRescues true _ _ _ _ _ [] _ _ _ _ _ _ _ (BehindSeparator _ _ _ refl) refl
+    (SomeErrors true _ _ _ (LastPattern true _ _ _ (term-of (sum-level (operand-of (ConstantName true _ (codes "E") _ refl)))))) (Bound _ _ (codes "e") _ refl refl) (Line _ _ refl)
+    (Statements Inside true _ [] _ _ _ _ _ (Closed _) (name-alone _ (codes "y") _ refl) (NoMore Inside true _) (Wide _ _ _ refl (Closed _))) (NoRescue true _ _)) (NoElse true _) (NoEnsure true _))
+    refl))
 
 -- ---- the roles
 
@@ -134,6 +157,10 @@ bars-count-not = (block, have BLOCK _ refl)
 pub body-begins-by-if : BodyBeginsByIf
 unfolding tokens.shape_of sort_of effect_of behind behind_plain within role_of
 body-begins-by-if = (method, have METHOD _ refl)
+
+pub rescue-divides : RescueDivides
+unfolding tokens.shape_of sort_of effect_of behind behind_plain within role_of
+rescue-divides = (guarded, have GUARDED _ refl)
 
 -- ---- the weights
 

@@ -13,8 +13,10 @@ use Rattle.rb_tree.specs.declared.syntax.Pair.{Pair}
 use Rattle.rb_tree.specs.declared.syntax.Arm.{Arm}
 use Rattle.rb_tree.specs.declared.syntax.When.{When}
 use Rattle.rb_tree.specs.declared.syntax.Parameter.{Parameter}
+use Rattle.rb_tree.specs.declared.syntax.Guarded.{Guarded}
+use Rattle.rb_tree.specs.declared.syntax.Rescue.{Rescue}
 use Rattle.rb_rules.specs.Forms.{Site}
-use Rattle.rb_rules.specs.Grammar.{DerivesBody, DerivesMore, DerivesStatement, DerivesModified, DerivesSimple, DerivesValue, DerivesTarget, DerivesCallee, DerivesArguments, DerivesArgument, DerivesTerm, DerivesLevel, DerivesPrefixed, DerivesOperand, DerivesSuffix, DerivesIndex, DerivesBrackets, DerivesBlockBehind, DerivesBlock, DerivesDo, DerivesPrimary, DerivesPieces, DerivesElements, DerivesPairs, DerivesPair, DerivesArms, DerivesElse, DerivesSubject, DerivesWhens, DerivesPatterns, DerivesDeclaration, DerivesMethod, DerivesParameters, DerivesParameterList, DerivesParameter}
+use Rattle.rb_rules.specs.Grammar.{DerivesBody, DerivesMore, DerivesStatement, DerivesModified, DerivesSimple, DerivesValue, DerivesTarget, DerivesCallee, DerivesArguments, DerivesArgument, DerivesTerm, DerivesLevel, DerivesPrefixed, DerivesOperand, DerivesSuffix, DerivesIndex, DerivesBrackets, DerivesBlockBehind, DerivesBlock, DerivesDo, DerivesPrimary, DerivesPieces, DerivesElements, DerivesPairs, DerivesPair, DerivesArms, DerivesElse, DerivesSubject, DerivesWhens, DerivesPatterns, DerivesGuarded, DerivesRescues, DerivesRaised, DerivesEnsure, DerivesDeclaration, DerivesMethod, DerivesParameters, DerivesParameterList, DerivesParameter}
 use Rattle.rb_rules.specs.Grammar.DerivesBody.{NoStatement, Statements}
 use Rattle.rb_rules.specs.Grammar.DerivesMore.{NoMore, Another}
 use Rattle.rb_rules.specs.Grammar.DerivesStatement.{Declared, Simply}
@@ -35,7 +37,7 @@ use Rattle.rb_rules.specs.Grammar.DerivesBrackets.{NoBrackets, EmptyBrackets, Br
 use Rattle.rb_rules.specs.Grammar.DerivesBlockBehind.{NoBlock, SomeBlock}
 use Rattle.rb_rules.specs.Grammar.DerivesBlock.{Braces, DoEnd}
 use Rattle.rb_rules.specs.Grammar.DerivesDo.{NoDo, SomeDo}
-use Rattle.rb_rules.specs.Grammar.DerivesPrimary.{WholeNumber, FloatNumber, SignedWhole, SignedFloat, String, SymbolName, InstanceName, ConstantName, FromTop, SelfPlace, NilPlace, TruePlace, FalsePlace, NameAlone, CallWithBrackets, CallWithBlock, Yields, Supers, EmptyArray, SomeArray, EmptyHash, SomeHash, InParens, Branches, Loops, Cases}
+use Rattle.rb_rules.specs.Grammar.DerivesPrimary.{WholeNumber, FloatNumber, SignedWhole, SignedFloat, String, SymbolName, InstanceName, ConstantName, FromTop, SelfPlace, NilPlace, TruePlace, FalsePlace, NameAlone, CallWithBrackets, CallWithBlock, Yields, Supers, EmptyArray, SomeArray, EmptyHash, SomeHash, InParens, Branches, Loops, Guards, Cases}
 use Rattle.rb_rules.specs.Grammar.DerivesPieces.{NoPiece, MorePieces}
 use Rattle.rb_rules.specs.Grammar.DerivesElements.{LastElement, MoreElements}
 use Rattle.rb_rules.specs.Grammar.DerivesPairs.{LastPair, MorePairs}
@@ -45,6 +47,10 @@ use Rattle.rb_rules.specs.Grammar.DerivesElse.{NoElse, SomeElse}
 use Rattle.rb_rules.specs.Grammar.DerivesSubject.{NoSubject, SomeSubject}
 use Rattle.rb_rules.specs.Grammar.DerivesWhens.{NoWhen, MoreWhens}
 use Rattle.rb_rules.specs.Grammar.DerivesPatterns.{LastPattern, MorePatterns}
+use Rattle.rb_rules.specs.Grammar.DerivesGuarded.{Unrescued, Rescued}
+use Rattle.rb_rules.specs.Grammar.DerivesRescues.{NoRescue, MoreRescues}
+use Rattle.rb_rules.specs.Grammar.DerivesRaised.{AnyError, SomeErrors}
+use Rattle.rb_rules.specs.Grammar.DerivesEnsure.{NoEnsure, SomeEnsure}
 use Rattle.rb_rules.specs.Grammar.DerivesDeclaration.{ClassOf, ModuleOf, Method, VisibleMethod}
 use Rattle.rb_rules.specs.Grammar.DerivesMethod.{Def}
 use Rattle.rb_rules.specs.Grammar.DerivesParameters.{NoParameters, OpenParameters, EmptyParens, InBrackets}
@@ -56,7 +62,7 @@ use Rattle.rb_weight.specs.declared.effect.Before.{Before}
 use Rattle.rb_weight.specs.declared.effect.Before.TheVariants as before
 use Rattle.rb_weight.specs.declared.effect.Level.{Level}
 use Rattle.rb_weight.specs.declared.effect.Level.TheVariants as level
-use Rattle.rb_weight_laws.specs.Roles.{body_roles, more_roles, statement_roles, modified_roles, simple_roles, value_roles, target_roles, callee_roles, arguments_roles, argument_roles, term_roles, level_roles, prefixed_roles, operand_roles, suffix_roles, index_roles, brackets_roles, block_behind_roles, block_roles, do_roles, primary_roles, pieces_roles, elements_roles, pairs_roles, pair_roles, arms_roles, else_roles, subject_roles, whens_roles, patterns_roles, declaration_roles, method_roles, parameters_roles, parameter_list_roles, parameter_roles}
+use Rattle.rb_weight_laws.specs.Roles.{body_roles, more_roles, statement_roles, modified_roles, simple_roles, value_roles, target_roles, callee_roles, arguments_roles, argument_roles, term_roles, level_roles, prefixed_roles, operand_roles, suffix_roles, index_roles, brackets_roles, block_behind_roles, block_roles, do_roles, primary_roles, pieces_roles, elements_roles, pairs_roles, pair_roles, arms_roles, else_roles, subject_roles, whens_roles, patterns_roles, guarded_roles, rescues_roles, raised_roles, ensure_roles, declaration_roles, method_roles, parameters_roles, parameter_list_roles, parameter_roles}
 use Rattle.rb_weight_laws.proofs.Steps.{Run, stay, chain, Ready, ready-usual, Usual, Starts, starts-usual, fresh, starts, Ends, ends, run-ends, ends-run, ends-ends}
 use Rattle.rb_weight_laws.proofs.Steps.Ready.{Fresh, Opened}
 use Rattle.rb_weight_laws.proofs.Steps.Usual.{AtPlain, AtBlock, AtOperand, AtName}
@@ -64,7 +70,7 @@ use Rattle.rb_weight_laws.proofs.Steps.Starts.{Behind}
 use Rattle.rb_weight_laws.proofs.Tokens.{shaped, kinded, operand, self-word, other, operator, counts, divides, separates, opens, brace, paren, paren-behind, parameter-paren, closes, closes-parameters, block-do, choice, loop, modifier, def-word}
 use Rattle.rb_weight_laws.proofs.Tokens.Counting.{ByOperator, ByDot, ByAssign}
 use Rattle.rb_weight_laws.proofs.Rows.{operates, assignments, dots, signs, prefixes, jump-words, branch-words, loop-words, modifier-words, branch-ready, loop-ready, command-starts}
-use Rattle.rb_weight_laws.proofs.Names.{Fits, fits-plain, gap, ready-gap, gap-in, then-word, between, end-of, bars, path, superclass, method-name, owner}
+use Rattle.rb_weight_laws.proofs.Names.{Fits, fits-plain, gap, ready-gap, gap-in, then-word, between, end-of, bars, path, superclass, method-name, owner, parted, variable}
 
 mutual
   unfolding body_roles sort_of shape_of
@@ -84,7 +90,7 @@ mutual
 
   modified : {free : Bool} {s t : Tree} {ls : List Level} {xs ys : List Token} (d : DerivesModified free s t xs ys) → Run before.Operand (level.Plain ∷ ls) xs (modified_roles d) before.Operand (level.Plain ∷ ls) ys
   modified (Unmodified _ _ _) = stay
-  modified (Modified free m _ _ _ _ _ _ _ is c more) = chain (modifier m refl (modifier-words is)) (chain (simple c fresh (fits-plain free)) (modified more))
+  modified (Modified free m _ _ _ _ _ _ _ is _ c more) = chain (modifier m refl (modifier-words is)) (chain (simple c fresh (fits-plain free)) (modified more))
 
   simple : {constants free : Bool} {t : Tree} {b : Before} {l : Level} {ls : List Level} {xs ys : List Token} (d : DerivesSimple constants free t xs ys) → Starts b xs → Fits free l → Run b (l ∷ ls) xs (simple_roles d) before.Operand (l ∷ ls) ys
   simple (Valued _ _ _ _ _ d) s f = value d s f
@@ -194,10 +200,11 @@ mutual
       chain (brace o (shaped o is) (starts-usual s)) (ends-run (ready-gap g Opened refl) (λ b q. chain (pairs d (starts q)) (ends-run (end-of e) (λ b u. closes c (shaped c is_end) u))))
   primary (InParens _ o c _ _ _ is d is_end) s f = chain (paren o (shaped o is) s) (ends-run (body d Fresh) (λ b u. closes c (shaped c is_end) u))
   primary (Branches free k e _ _ _ _ _ xs _ _ _ _ _ is c w d arms _ z is_end) s f =
-      chain (choice k (branch-words is) (branch-ready k xs is s)) (chain (simple c fresh (fits-plain free)) (chain (then-word w)
+      chain (choice k (branch-words is) (branch-ready k xs is s)) (chain (simple c fresh (fits-plain free)) (chain (then-word w AtOperand)
       (ends-run (body d Fresh) (λ b u. ends-run (arms-of arms u) (λ b v. ends-run (else-of z v) (λ b x. closes e (shaped e is_end) x))))))
   primary (Loops _ k m e _ _ _ xs _ _ is c h d is_end) s f =
       chain (loop k (loop-words is) (loop-ready k xs is s)) (chain (simple c fresh tt) (ends-run (between m h) (λ b q. ends-run (body d q) (λ b u. closes e (shaped e is_end) u))))
+  primary (Guards _ k e _ _ _ is d is_end) s f = chain (opens k (shaped k is) (starts-usual s)) (ends-run (guarded d) (λ b u. closes e (shaped e is_end) u))
   primary (Cases _ k e _ _ _ _ _ _ _ _ _ is t g arms z is_end) s f =
       chain (opens k (shaped k is) (starts-usual s)) (ends-run (subject t) (λ b u. ends-run (gap g u refl) (λ b v. ends-run (whens arms v) (λ b x. ends-run (else-of z x) (λ b y. closes e (shaped e is_end) y)))))
 
@@ -221,7 +228,7 @@ mutual
   arms-of : {free : Bool} {arms : List (Arm Tree)} {b : Before} {ls : List Level} {xs ys : List Token} (d : DerivesArms free arms xs ys) → Usual b → Ends Usual b (level.Plain ∷ ls) xs (arms_roles d) (level.Plain ∷ ls) ys
   arms-of (NoArm _ _) u = ends stay u
   arms-of (MoreArms free k _ _ _ _ _ _ _ _ is c w d more) u =
-      run-ends (divides k (shaped k is) u) (run-ends (simple c fresh (fits-plain free)) (run-ends (then-word w) (ends-ends (body d Fresh) (λ b v. arms-of more v))))
+      run-ends (divides k (shaped k is) u) (run-ends (simple c fresh (fits-plain free)) (run-ends (then-word w AtOperand) (ends-ends (body d Fresh) (λ b v. arms-of more v))))
 
   else-of : {free : Bool} {t : Option Tree} {b : Before} {ls : List Level} {xs ys : List Token} (d : DerivesElse free t xs ys) → Usual b → Ends Usual b (level.Plain ∷ ls) xs (else_roles d) (level.Plain ∷ ls) ys
   else-of (NoElse _ _) u = ends stay u
@@ -233,11 +240,28 @@ mutual
 
   whens : {free : Bool} {arms : List (When Tree)} {b : Before} {ls : List Level} {xs ys : List Token} (d : DerivesWhens free arms xs ys) → Usual b → Ends Usual b (level.Plain ∷ ls) xs (whens_roles d) (level.Plain ∷ ls) ys
   whens (NoWhen _ _) u = ends stay u
-  whens (MoreWhens _ k _ _ _ _ _ _ _ _ is ps w d more) u = run-ends (divides k (shaped k is) u) (run-ends (patterns ps fresh) (run-ends (then-word w) (ends-ends (body d Fresh) (λ b v. whens more v))))
+  whens (MoreWhens _ k _ _ _ _ _ _ _ _ is ps w d more) u = run-ends (divides k (shaped k is) u) (run-ends (patterns ps fresh) (run-ends (then-word w AtOperand) (ends-ends (body d Fresh) (λ b v. whens more v))))
 
   patterns : {free : Bool} {ps : List Tree} {b : Before} {ls : List Level} {xs ys : List Token} (d : DerivesPatterns free ps xs ys) → Starts b xs → Run b (level.Plain ∷ ls) xs (patterns_roles d) before.Operand (level.Plain ∷ ls) ys
   patterns (LastPattern free _ _ _ d) s = term d s (fits-plain free)
   patterns (MorePatterns free c _ _ _ _ _ d is more) s = chain (term d s (fits-plain free)) (chain (divides c (shaped c is) AtOperand) (patterns more fresh))
+
+  guarded : {free : Bool} {g : Guarded Tree} {ls : List Level} {xs ys : List Token} (d : DerivesGuarded free g xs ys) → Ends Usual before.Plain (level.Plain ∷ ls) xs (guarded_roles d) (level.Plain ∷ ls) ys
+  guarded (Unrescued _ _ _ _ _ _ d e) = ends-ends (body d Fresh) (λ b u. ensure-of e u)
+  guarded (Rescued _ _ _ _ _ _ _ _ _ _ _ d clauses z e) = ends-ends (body d Fresh) (λ b u. ends-ends (rescues clauses u) (λ b v. ends-ends (else-of z v) (λ b x. ensure-of e x)))
+
+  rescues : {free : Bool} {t : Tree} {clauses : List (Rescue Tree)} {b : Before} {ls : List Level} {xs ys : List Token} (d : DerivesRescues free t clauses xs ys) → Usual b → Ends Usual b (level.Plain ∷ ls) xs (rescues_roles d) (level.Plain ∷ ls) ys
+  rescues (NoRescue _ _ _) u = ends stay u
+  rescues (MoreRescues _ k _ _ _ _ _ _ _ _ _ _ _ _ p is r n w d more) u =
+      ends-ends (parted p u) (λ b v. run-ends (divides k (shaped k is) v) (ends-ends (raised r) (λ b x. ends-ends (variable n x) (λ b y. run-ends (then-word w y) (ends-ends (body d Fresh) (λ b z. rescues more z))))))
+
+  raised : {free : Bool} {ps : List Tree} {ls : List Level} {xs ys : List Token} (d : DerivesRaised free ps xs ys) → Ends Usual before.Plain (level.Plain ∷ ls) xs (raised_roles d) (level.Plain ∷ ls) ys
+  raised (AnyError _ _) = ends stay AtPlain
+  raised (SomeErrors _ _ _ _ d) = ends (patterns d fresh) AtOperand
+
+  ensure-of : {free : Bool} {t : Option Tree} {b : Before} {ls : List Level} {xs ys : List Token} (d : DerivesEnsure free t xs ys) → Usual b → Ends Usual b (level.Plain ∷ ls) xs (ensure_roles d) (level.Plain ∷ ls) ys
+  ensure-of (NoEnsure _ _) u = ends stay u
+  ensure-of (SomeEnsure _ k _ _ _ is d) u = run-ends (divides k (shaped k is) u) (body d Fresh)
 
   declaration : {at : Site} {t : Tree} {b : Before} {ls : List Level} {xs ys : List Token} (d : DerivesDeclaration at t xs ys) → Starts b xs → Run b (level.Plain ∷ ls) xs (declaration_roles d) before.Operand (level.Plain ∷ ls) ys
   declaration (ClassOf _ k m e _ _ _ _ _ _ _ is p r is_line d is_end) s =
@@ -249,7 +273,7 @@ mutual
 
   method : {visible : Option Visibility} {front : Option Token} {t : Tree} {b : Before} {ls : List Level} {xs ys : List Token} (d : DerivesMethod visible front t xs ys) → Usual b → Run b (level.Plain ∷ ls) xs (method_roles d) before.Operand (level.Plain ∷ ls) ys
   method (Def _ _ k e _ _ _ _ _ _ _ _ _ _ is o n given _ _ d is_end) u =
-      chain (def-word k (shaped k is) u) (ends-run (owner o) (λ b h. chain (method-name n h) (chain (parameters given) (ends-run (body d Fresh) (λ b v. closes e (shaped e is_end) v)))))
+      chain (def-word k (shaped k is) u) (ends-run (owner o) (λ b h. chain (method-name n h) (chain (parameters given) (ends-run (guarded d) (λ b v. closes e (shaped e is_end) v)))))
 
   -- those in brackets stand in a level of their own
   parameters : {ps : List (Parameter Tree)} {ls : List Level} {xs ys : List Token} (d : DerivesParameters ps xs ys) → Run before.Name (level.Plain ∷ ls) xs (parameters_roles d) before.Plain (level.Plain ∷ ls) ys

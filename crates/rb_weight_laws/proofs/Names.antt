@@ -6,8 +6,9 @@ use Rattle.rb_tree.specs.declared.token.Token.{Token}
 use Rattle.rb_tree.specs.declared.token.Shape.TheVariants as shape
 use Rattle.rb_tree.specs.declared.syntax.PlacedName.{PlacedName}
 use Rattle.rb_tree.specs.declared.syntax.Reference.{Reference}
+use Rattle.rb_tree.specs.declared.syntax.Tree.{Tree}
 use Rattle.rb_rules.specs.Tokens.{IsAny}
-use Rattle.rb_rules.specs.Grammar.{Gap, GapIn, Then, BarNames, Bars, Path, Superclass, MethodName, Owner, DerivesEnd}
+use Rattle.rb_rules.specs.Grammar.{Gap, GapIn, Then, BarNames, Bars, Path, Superclass, MethodName, Owner, Parted, RescueVariable, DerivesEnd}
 use Rattle.rb_rules.specs.Grammar.Gap.{Closed, Wide}
 use Rattle.rb_rules.specs.Grammar.GapIn.{Tight, Loose}
 use Rattle.rb_rules.specs.Grammar.Then.{Word, Line, LineWord}
@@ -17,6 +18,8 @@ use Rattle.rb_rules.specs.Grammar.Path.{LastName, MoreNames}
 use Rattle.rb_rules.specs.Grammar.Superclass.{NoSuperclass, Named, NamedFromTop}
 use Rattle.rb_rules.specs.Grammar.MethodName.{Plain, Writer, Capital, Operator}
 use Rattle.rb_rules.specs.Grammar.Owner.{Other, Own as OwnSelf}
+use Rattle.rb_rules.specs.Grammar.Parted.{BehindNothing, BehindSeparator}
+use Rattle.rb_rules.specs.Grammar.RescueVariable.{NoVariable, Bound}
 use Rattle.rb_rules.specs.Grammar.DerivesEnd.{NoComma, LastComma}
 use Rattle.rb_weight.specs.Sorts.{sort_of}
 use Rattle.rb_weight.specs.Effects.{is_condition}
@@ -24,7 +27,7 @@ use Rattle.rb_weight.specs.declared.effect.Before.{Before}
 use Rattle.rb_weight.specs.declared.effect.Before.TheVariants as before
 use Rattle.rb_weight.specs.declared.effect.Level.{Level}
 use Rattle.rb_weight.specs.declared.effect.Level.TheVariants as level
-use Rattle.rb_weight_laws.specs.Roles.{gap_roles, gap_in_roles, then_roles, loop_role, end_roles, bar_name_roles, bars_roles, path_roles, superclass_roles, method_name_roles, owner_roles}
+use Rattle.rb_weight_laws.specs.Roles.{gap_roles, gap_in_roles, then_roles, loop_role, end_roles, bar_name_roles, bars_roles, path_roles, superclass_roles, method_name_roles, owner_roles, parted_roles, variable_roles}
 use Rattle.rb_weight_laws.proofs.Steps.{Run, stay, chain, Ready, ready-usual, Usual, Ends, ends, run-ends}
 use Rattle.rb_weight_laws.proofs.Steps.Ready.{Fresh, Opened}
 use Rattle.rb_weight_laws.proofs.Steps.Usual.{AtPlain, AtOperand}
@@ -59,11 +62,11 @@ unfolding gap_in_roles
 gap-in (Tight _) r fits = ends stay r
 gap-in (Loose _ _ g) r fits = ready-gap g r fits
 
-pub then-word : {ls : List Level} {xs ys : List Token} (w : Then xs ys) → Run before.Operand (level.Plain ∷ ls) xs (then_roles w) before.Plain (level.Plain ∷ ls) ys
+pub then-word : {b : Before} {ls : List Level} {xs ys : List Token} (w : Then xs ys) → Usual b → Run b (level.Plain ∷ ls) xs (then_roles w) before.Plain (level.Plain ∷ ls) ys
 unfolding then_roles sort_of
-then-word (Word t _ is) = divides t (shaped t is) AtOperand
-then-word (Line t _ is) = separates t (shaped t is) AtOperand refl
-then-word (LineWord s t _ is_line is) = chain (separates s (shaped s is_line) AtOperand refl) (divides t (shaped t is) AtPlain)
+then-word (Word t _ is) u = divides t (shaped t is) u
+then-word (Line t _ is) u = separates t (shaped t is) u refl
+then-word (LineWord s t _ is_line is) u = chain (separates s (shaped s is_line) u refl) (divides t (shaped t is) AtPlain)
 
 -- between the condition of a loop and its body
 pub between : {ls : List Level} {xs : List Token} (t : Token) (h : IsAny (shape.Do ∷ shape.Separator ∷ []) t) → Ends Ready before.Operand (level.Condition ∷ ls) (t ∷ xs) (loop_role t h ∷ []) (level.Plain ∷ ls) xs
@@ -113,3 +116,15 @@ pub owner : {own : Bool} {l : Level} {ls : List Level} {xs ys : List Token} (d :
 unfolding owner_roles sort_of
 owner (Other _) = ends stay BehindDef
 owner (OwnSelf s d _ is is_dot) = ends (chain (def-self s (shaped s is)) (def-dot d (shaped d is_dot))) BehindDot
+
+-- ---- guards
+
+pub parted : {t : Tree} {b : Before} {ls : List Level} {xs ys : List Token} (d : Parted t xs ys) → Usual b → Ends Usual b (level.Plain ∷ ls) xs (parted_roles d) (level.Plain ∷ ls) ys
+unfolding parted_roles sort_of
+parted (BehindNothing _) u = ends stay u
+parted (BehindSeparator _ t _ is) u = ends (separates t (shaped t is) u refl) AtPlain
+
+pub variable : {v : Option PlacedName} {b : Before} {ls : List Level} {xs ys : List Token} (d : RescueVariable v xs ys) → Usual b → Ends Usual b (level.Plain ∷ ls) xs (variable_roles d) (level.Plain ∷ ls) ys
+unfolding variable_roles sort_of shape_of
+variable (NoVariable _) u = ends stay u
+variable (Bound a t _ _ is is_name) u = ends (chain (other a (shaped a is) u) (operand t (kinded t is_name) AtPlain)) AtOperand

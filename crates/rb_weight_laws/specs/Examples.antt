@@ -11,7 +11,7 @@ use Rattle.rb_grammar.specs.Examples.{digit, from_to, token}
 use Rattle.rb_rules.specs.Grammar.{Derives}
 use Rattle.rb_weight_laws.specs.Roles.{Role, roles}
 use Rattle.rb_weight_laws.specs.Weights.{levels_with, weight_of_levels}
-use Rattle.rb_weight_laws.specs.Roles.Role.{Opens, Closes, Counts, LoopDo, Divides, Stands}
+use Rattle.rb_weight_laws.specs.Roles.Role.{Opens, Closes, Counts, LoopDo, Separates, Divides, Stands}
 
 -- the tokens are a program with this tree, and they have these roles however they are derived
 abbrev pub HaveRoles : List Token → Tree → List Role → Type 0
@@ -83,7 +83,12 @@ METHOD =
 abbrev pub METHOD_TREE : Tree
 METHOD_TREE = tree.Body
     (tree.Def None false (codes "f") (from_to 4 5) []
-    (tree.Body (tree.If test.Positive (tree.Name (codes "x") (from_to 11 12)) (tree.Body (tree.Name (codes "y") (from_to 18 19) ∷ []) (from_to 18 19)) [] None (from_to 8 23) ∷ []) (from_to 8 23))
+    (record {
+      body = tree.Body (tree.If test.Positive (tree.Name (codes "x") (from_to 11 12)) (tree.Body (tree.Name (codes "y") (from_to 18 19) ∷ []) (from_to 18 19)) [] None (from_to 8 23) ∷ []) (from_to 8 23);
+      rescues = [];
+      otherwise = None;
+      ensure = None;
+    })
     (from_to 0 27) ∷ [])
     (from_to 0 27)
 
@@ -96,3 +101,30 @@ BodyBeginsByIf = HaveRoles METHOD METHOD_TREE METHOD_ROLES
 -- the parameters and the `if` weigh 1 each, in the method, which weighs 1
 abbrev pub MethodWeighs : Type 0
 MethodWeighs = weights METHOD_ROLES ≡ 1 ∷ 1 ∷ 2 ∷ 1 ∷ 2 ∷ 2 ∷ 2 ∷ 2 ∷ 1 ∷ 0 ∷ []
+
+-- `begin; x; rescue E => e; y; end`: the `begin` opens a level, and the `rescue` takes the operators of it away
+abbrev pub GUARDED : List Token
+GUARDED =
+    token kind.Begin 0 5 ∷ token kind.Separator 5 6 ∷ token (kind.Identifier (codes "x")) 7 8 ∷ token kind.Separator 8 9 ∷ token kind.Rescue 10 16
+    ∷ token (kind.Constant (codes "E")) 17 18 ∷ token kind.Arrow 19 21 ∷ token (kind.Identifier (codes "e")) 22 23 ∷ token kind.Separator 23 24 ∷ token (kind.Identifier (codes "y")) 25 26
+    ∷ token kind.Separator 26 27 ∷ token kind.End 28 31 ∷ []
+
+abbrev pub GUARDED_TREE : Tree
+GUARDED_TREE = tree.Body
+    (tree.Begin
+    (record {
+      body = tree.Body (tree.Name (codes "x") (from_to 7 8) ∷ []) (from_to 7 8);
+      rescues =
+          record {
+            patterns = tree.Constant (codes "E") (from_to 17 18) ∷ [];
+            variable = Some (record { name = codes "e"; span = from_to 22 23 });
+            body = tree.Body (tree.Name (codes "y") (from_to 25 26) ∷ []) (from_to 25 26);
+          } ∷ [];
+      otherwise = None;
+      ensure = None;
+    })
+    (from_to 0 31) ∷ [])
+    (from_to 0 31)
+
+abbrev pub RescueDivides : Type 0
+RescueDivides = HaveRoles GUARDED GUARDED_TREE (Opens ∷ Separates ∷ Stands ∷ Separates ∷ Divides ∷ Stands ∷ Stands ∷ Stands ∷ Separates ∷ Stands ∷ Separates ∷ Closes ∷ [])

@@ -17,9 +17,11 @@ use Rattle.rb_tree.specs.declared.syntax.When.{When}
 use Rattle.rb_tree.specs.declared.syntax.PlacedName.{PlacedName}
 use Rattle.rb_tree.specs.declared.syntax.Reference.{Reference}
 use Rattle.rb_tree.specs.declared.syntax.Parameter.{Parameter}
+use Rattle.rb_tree.specs.declared.syntax.Guarded.{Guarded}
+use Rattle.rb_tree.specs.declared.syntax.Rescue.{Rescue}
 use Rattle.rb_rules.specs.Tokens.{IsAny}
 use Rattle.rb_rules.specs.Forms.{Site}
-use Rattle.rb_rules.specs.Grammar.{Derives, Gap, GapIn, Then, BarNames, Bars, Path, Superclass, MethodName, Owner, DerivesBody, DerivesMore, DerivesStatement, DerivesModified, DerivesSimple, DerivesValue, DerivesTarget, DerivesCallee, DerivesArguments, DerivesArgument, DerivesTerm, DerivesLevel, DerivesPrefixed, DerivesOperand, DerivesSuffix, DerivesIndex, DerivesEnd, DerivesBrackets, DerivesBlockBehind, DerivesBlock, DerivesDo, DerivesPrimary, DerivesPieces, DerivesElements, DerivesPairs, DerivesPair, DerivesArms, DerivesElse, DerivesSubject, DerivesWhens, DerivesPatterns, DerivesDeclaration, DerivesMethod, DerivesParameters, DerivesParameterList, DerivesParameter}
+use Rattle.rb_rules.specs.Grammar.{Derives, Gap, GapIn, Then, BarNames, Bars, Path, Superclass, MethodName, Owner, Parted, RescueVariable, DerivesBody, DerivesMore, DerivesStatement, DerivesModified, DerivesSimple, DerivesValue, DerivesTarget, DerivesCallee, DerivesArguments, DerivesArgument, DerivesTerm, DerivesLevel, DerivesPrefixed, DerivesOperand, DerivesSuffix, DerivesIndex, DerivesEnd, DerivesBrackets, DerivesBlockBehind, DerivesBlock, DerivesDo, DerivesPrimary, DerivesPieces, DerivesElements, DerivesPairs, DerivesPair, DerivesArms, DerivesElse, DerivesSubject, DerivesWhens, DerivesPatterns, DerivesGuarded, DerivesRescues, DerivesRaised, DerivesEnsure, DerivesDeclaration, DerivesMethod, DerivesParameters, DerivesParameterList, DerivesParameter}
 use Rattle.rb_rules.specs.Grammar.Gap.{Closed, Wide}
 use Rattle.rb_rules.specs.Grammar.GapIn.{Tight, Loose}
 use Rattle.rb_rules.specs.Grammar.Then.{Word, Line, LineWord}
@@ -29,6 +31,8 @@ use Rattle.rb_rules.specs.Grammar.Path.{LastName, MoreNames}
 use Rattle.rb_rules.specs.Grammar.Superclass.{NoSuperclass, Named, NamedFromTop}
 use Rattle.rb_rules.specs.Grammar.MethodName.{Plain, Writer, Capital, Operator}
 use Rattle.rb_rules.specs.Grammar.Owner.{Other, Own as OwnSelf}
+use Rattle.rb_rules.specs.Grammar.Parted.{BehindNothing, BehindSeparator}
+use Rattle.rb_rules.specs.Grammar.RescueVariable.{NoVariable, Bound}
 use Rattle.rb_rules.specs.Grammar.DerivesBody.{NoStatement, Statements}
 use Rattle.rb_rules.specs.Grammar.DerivesMore.{NoMore, Another}
 use Rattle.rb_rules.specs.Grammar.DerivesStatement.{Declared, Simply}
@@ -50,7 +54,7 @@ use Rattle.rb_rules.specs.Grammar.DerivesBrackets.{NoBrackets, EmptyBrackets, Br
 use Rattle.rb_rules.specs.Grammar.DerivesBlockBehind.{NoBlock, SomeBlock}
 use Rattle.rb_rules.specs.Grammar.DerivesBlock.{Braces, DoEnd}
 use Rattle.rb_rules.specs.Grammar.DerivesDo.{NoDo, SomeDo}
-use Rattle.rb_rules.specs.Grammar.DerivesPrimary.{WholeNumber, FloatNumber, SignedWhole, SignedFloat, String, SymbolName, InstanceName, ConstantName, FromTop, SelfPlace, NilPlace, TruePlace, FalsePlace, NameAlone, CallWithBrackets, CallWithBlock, Yields, Supers, EmptyArray, SomeArray, EmptyHash, SomeHash, InParens, Branches, Loops, Cases}
+use Rattle.rb_rules.specs.Grammar.DerivesPrimary.{WholeNumber, FloatNumber, SignedWhole, SignedFloat, String, SymbolName, InstanceName, ConstantName, FromTop, SelfPlace, NilPlace, TruePlace, FalsePlace, NameAlone, CallWithBrackets, CallWithBlock, Yields, Supers, EmptyArray, SomeArray, EmptyHash, SomeHash, InParens, Branches, Loops, Guards, Cases}
 use Rattle.rb_rules.specs.Grammar.DerivesPieces.{NoPiece, MorePieces}
 use Rattle.rb_rules.specs.Grammar.DerivesElements.{LastElement, MoreElements}
 use Rattle.rb_rules.specs.Grammar.DerivesPairs.{LastPair, MorePairs}
@@ -60,6 +64,10 @@ use Rattle.rb_rules.specs.Grammar.DerivesElse.{NoElse, SomeElse}
 use Rattle.rb_rules.specs.Grammar.DerivesSubject.{NoSubject, SomeSubject}
 use Rattle.rb_rules.specs.Grammar.DerivesWhens.{NoWhen, MoreWhens}
 use Rattle.rb_rules.specs.Grammar.DerivesPatterns.{LastPattern, MorePatterns}
+use Rattle.rb_rules.specs.Grammar.DerivesGuarded.{Unrescued, Rescued}
+use Rattle.rb_rules.specs.Grammar.DerivesRescues.{NoRescue, MoreRescues}
+use Rattle.rb_rules.specs.Grammar.DerivesRaised.{AnyError, SomeErrors}
+use Rattle.rb_rules.specs.Grammar.DerivesEnsure.{NoEnsure, SomeEnsure}
 use Rattle.rb_rules.specs.Grammar.DerivesDeclaration.{ClassOf, ModuleOf, Method, VisibleMethod}
 use Rattle.rb_rules.specs.Grammar.DerivesMethod.{Def}
 use Rattle.rb_rules.specs.Grammar.DerivesParameters.{NoParameters, OpenParameters, EmptyParens, InBrackets}
@@ -78,7 +86,7 @@ pub data Role : Type 0 where
   LoopDo : Role
   -- it is a separator
   Separates : Role
-  -- it is a `,`, `then`, `else`, `elsif` or `when`
+  -- it is a `,`, `then`, `else`, `elsif`, `when`, `rescue` or `ensure`
   Divides : Role
   -- it is none of these
   Stands : Role
@@ -141,6 +149,17 @@ unfoldable pub owner_roles : {own : Bool} {xs ys : List Token} → Owner own xs 
 owner_roles (Other _) = []
 owner_roles (OwnSelf _ _ _ _ _) = Role.Stands ∷ Role.Counts ∷ []
 
+-- ---- guards
+
+unfoldable pub parted_roles : {before : Tree} {xs ys : List Token} → Parted before xs ys → List Role
+parted_roles (BehindNothing _) = []
+parted_roles (BehindSeparator _ _ _ _) = Role.Separates ∷ []
+
+-- `=>` doesn't count
+unfoldable pub variable_roles : {variable : Option PlacedName} {xs ys : List Token} → RescueVariable variable xs ys → List Role
+variable_roles (NoVariable _) = []
+variable_roles (Bound _ _ _ _ _ _) = Role.Stands ∷ Role.Stands ∷ []
+
 -- ---- the forms
 
 unfoldable mutual
@@ -159,7 +178,7 @@ unfoldable mutual
   -- a modifier counts
   pub modified_roles : {free : Bool} {s t : Tree} {xs ys : List Token} → DerivesModified free s t xs ys → List Role
   modified_roles (Unmodified _ _ _) = []
-  modified_roles (Modified _ _ _ _ _ _ _ _ _ _ c more) = Role.Counts ∷ simple_roles c ++ modified_roles more
+  modified_roles (Modified _ _ _ _ _ _ _ _ _ _ _ c more) = Role.Counts ∷ simple_roles c ++ modified_roles more
 
   pub simple_roles : {constants free : Bool} {t : Tree} {xs ys : List Token} → DerivesSimple constants free t xs ys → List Role
   simple_roles (Valued _ _ _ _ _ d) = value_roles d
@@ -267,6 +286,7 @@ unfoldable mutual
   primary_roles (InParens _ _ _ _ _ _ _ d _) = Role.Opens ∷ body_roles d ++ Role.Closes ∷ []
   primary_roles (Branches _ _ _ _ _ _ _ _ _ _ _ _ _ _ _ c word d arms _ otherwise _) = Role.Opens ∷ simple_roles c ++ (then_roles word ++ (body_roles d ++ (arms_roles arms ++ (else_roles otherwise ++ Role.Closes ∷ []))))
   primary_roles (Loops _ _ d _ _ _ _ _ _ _ _ c between inner _) = Role.Opens ∷ simple_roles c ++ (loop_role d between ∷ body_roles inner ++ Role.Closes ∷ [])
+  primary_roles (Guards _ _ _ _ _ _ _ d _) = Role.Opens ∷ guarded_roles d ++ Role.Closes ∷ []
   primary_roles (Cases _ _ _ _ _ _ _ _ _ _ _ _ _ subject g arms otherwise _) = Role.Opens ∷ subject_roles subject ++ (gap_roles g ++ (whens_roles arms ++ (else_roles otherwise ++ Role.Closes ∷ [])))
 
   -- an interpolation is a level
@@ -307,6 +327,23 @@ unfoldable mutual
   patterns_roles (LastPattern _ _ _ _ d) = term_roles d
   patterns_roles (MorePatterns _ _ _ _ _ _ _ d _ more) = term_roles d ++ Role.Divides ∷ patterns_roles more
 
+  pub guarded_roles : {free : Bool} {g : Guarded Tree} {xs ys : List Token} → DerivesGuarded free g xs ys → List Role
+  guarded_roles (Unrescued _ _ _ _ _ _ d e) = body_roles d ++ ensure_roles e
+  guarded_roles (Rescued _ _ _ _ _ _ _ _ _ _ _ d clauses otherwise e) = body_roles d ++ (rescues_roles clauses ++ (else_roles otherwise ++ ensure_roles e))
+
+  pub rescues_roles : {free : Bool} {before : Tree} {clauses : List (Rescue Tree)} {xs ys : List Token} → DerivesRescues free before clauses xs ys → List Role
+  rescues_roles (NoRescue _ _ _) = []
+  rescues_roles (MoreRescues _ _ _ _ _ _ _ _ _ _ _ _ _ _ parted _ raised variable word d more) =
+      parted_roles parted ++ (Role.Divides ∷ raised_roles raised ++ (variable_roles variable ++ (then_roles word ++ (body_roles d ++ rescues_roles more))))
+
+  pub raised_roles : {free : Bool} {ps : List Tree} {xs ys : List Token} → DerivesRaised free ps xs ys → List Role
+  raised_roles (AnyError _ _) = []
+  raised_roles (SomeErrors _ _ _ _ d) = patterns_roles d
+
+  pub ensure_roles : {free : Bool} {t : Option Tree} {xs ys : List Token} → DerivesEnsure free t xs ys → List Role
+  ensure_roles (NoEnsure _ _) = []
+  ensure_roles (SomeEnsure _ _ _ _ _ _ d) = Role.Divides ∷ body_roles d
+
   pub declaration_roles : {at : Site} {t : Tree} {xs ys : List Token} → DerivesDeclaration at t xs ys → List Role
   declaration_roles (ClassOf _ _ _ _ _ _ _ _ _ _ _ _ path superclass _ d _) = Role.Opens ∷ path_roles path ++ (superclass_roles superclass ++ (Role.Separates ∷ body_roles d ++ Role.Closes ∷ []))
   declaration_roles (ModuleOf _ _ _ _ _ _ _ _ _ _ path _ d _) = Role.Opens ∷ path_roles path ++ (Role.Separates ∷ body_roles d ++ Role.Closes ∷ [])
@@ -314,7 +351,7 @@ unfoldable mutual
   declaration_roles (VisibleMethod _ _ _ _ _ _ _ _ _ d) = Role.Stands ∷ method_roles d
 
   pub method_roles : {visible : Option Visibility} {front : Option Token} {t : Tree} {xs ys : List Token} → DerivesMethod visible front t xs ys → List Role
-  method_roles (Def _ _ _ _ _ _ _ _ _ _ _ _ _ _ _ owner name given _ _ d _) = Role.Opens ∷ owner_roles owner ++ (method_name_roles name ++ (parameters_roles given ++ (body_roles d ++ Role.Closes ∷ [])))
+  method_roles (Def _ _ _ _ _ _ _ _ _ _ _ _ _ _ _ owner name given _ _ d _) = Role.Opens ∷ owner_roles owner ++ (method_name_roles name ++ (parameters_roles given ++ (guarded_roles d ++ Role.Closes ∷ [])))
 
   pub parameters_roles : {ps : List (Parameter Tree)} {xs ys : List Token} → DerivesParameters ps xs ys → List Role
   parameters_roles (NoParameters _ _ _) = Role.Separates ∷ []

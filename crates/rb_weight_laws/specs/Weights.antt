@@ -8,7 +8,7 @@ use Rattle.rb_weight_laws.specs.Roles.{Role, roles}
 use Rattle.rb_weight_laws.specs.Roles.Role.{Opens, Closes, Counts, LoopDo, Separates, Divides, Stands}
 
 -- An open level is told by a number: the operators and modifiers that stand directly in it since its last separator, `,`, `then`,
--- `else`, `elsif` or `when`. The innermost comes first, and the program itself last.
+-- `else`, `elsif`, `when`, `rescue` or `ensure`. The innermost comes first, and the program itself last.
 
 -- the levels behind a token with this role, which stands in a level with this number
 unfoldable pub within : Role → ℕ → List ℕ → List ℕ

@@ -5,7 +5,7 @@
 //! knows what stands before a token, by which `rb_weight` tells the same.
 #![tactic(auto)]
 
-ghost use Rattle.rb_weight_laws.specs.Examples.{BarsCountNot, BlockWeighs, BodyBeginsByIf, LoopOpensOnce, MethodWeighs, ModifierCounts};
+ghost use Rattle.rb_weight_laws.specs.Examples.{BarsCountNot, BlockWeighs, BodyBeginsByIf, LoopOpensOnce, MethodWeighs, ModifierCounts, RescueDivides};
 ghost use Rattle.rb_weight_laws.specs.Laws.{EachTokenHasARole, FrontsAreDeepByRoles, FrontsHaveTheWeightsOfAnyProgram, ProgramsAreDeepByRoles, RolesAreTold, WeightsAreThoseOfTheGrammar};
 
 /// The derivation of a program gives as many roles as the program has tokens.
@@ -34,12 +34,13 @@ pub fn depths_are_those_of_the_grammar()
 {}
 
 /// A few programs with the roles of their tokens: with a modifier, with a loop and its `do`, with a block and its bars, and with an
-/// `if` behind the parameters of a method; and the weights behind the tokens of the last two.
+/// `if` behind the parameters of a method, with a `begin` and its `rescue`; and the weights behind the tokens of two.
 pub fn examples_have_roles()
     ensures modifier { ModifierCounts }
     ensures loop_do { LoopOpensOnce }
     ensures block { BarsCountNot }
     ensures method { BodyBeginsByIf }
+    ensures guarded { RescueDivides }
     ensures block_weights { BlockWeighs }
     ensures method_weights { MethodWeighs }
 {}
