@@ -1,12 +1,15 @@
--- Conditional forms and loops that are begun can be completed.
+-- Conditional forms, loops and guards that are begun can be completed.
 use Rattle.std.proofs.Common.{◌≡◌, ℕ, zero, suc, Bool, true, false, ◌||◌, if◌then◌else◌, List, [], ◌∷◌, ◌++◌, Option, Some, None, Ok, ◌⊎◌, inl, inr, refl, sym, subst}
 use Rattle.srb_terms.specs.declared.span.Span.{Span}
 use Rattle.rb_tree.specs.Tokens.{shape_of, same_shape}
 use Rattle.rb_tree.specs.declared.syntax.Arm.{Arm}
+use Rattle.rb_tree.specs.declared.syntax.Guarded.{Guarded}
+use Rattle.rb_tree.specs.declared.syntax.PlacedName.{PlacedName}
+use Rattle.rb_tree.specs.declared.syntax.Rescue.{Rescue}
 use Rattle.rb_tree.specs.declared.syntax.Test.{Test}
 use Rattle.rb_tree.specs.declared.syntax.Test.TheVariants as test
 use Rattle.rb_tree.specs.declared.syntax.Tree.{Tree}
-use Rattle.rb_tree.specs.declared.syntax.Tree.TheVariants.{rolls-If, rolls-While, rolls-Case}
+use Rattle.rb_tree.specs.declared.syntax.Tree.TheVariants.{rolls-If, rolls-While, rolls-Case, rolls-Begin}
 use Rattle.rb_tree.specs.declared.syntax.When.{When}
 use Rattle.rb_tree.specs.declared.token.Token.{Token}
 use Rattle.rb_tree.specs.declared.token.TokenKind.TheVariants as kind
@@ -14,22 +17,28 @@ use Rattle.rb_tree.specs.declared.token.Shape.TheVariants as shape
 use Rattle.rb_expr.specs.declared.form.Form.{Form}
 use Rattle.rb_expr.specs.declared.ending.Ending.TheVariants as ending
 use Rattle.rb_expr.specs.Statements.{ending_of}
-use Rattle.rb_expr.specs.Reading.{Parser, sees, skip_separators}
+use Rattle.rb_expr.specs.Reading.{Outcome, Parser, and_then, sees, skip_separators}
 use Rattle.rb_expr.specs.Branches as spec
-use Rattle.rb_expr.specs.Branches.{after_then, then_word, do_word, otherwise, elsif_arm, elsif_arms_from, elsif_arms, arms_of, branch, repeated, patterns_from, when_arm, when_arms_from, when_arms, choice}
+use Rattle.rb_expr.specs.Branches.{after_then, then_word, do_word, rescues_all, rescue_variable, otherwise, elsif_arm, elsif_arms_from, elsif_arms, arms_of, branch, repeated, patterns_from, when_arm, when_arms_from, when_arms, choice, rescue_clause, rescues_from, rescues, otherwise_behind, guarded, guards}
 use Rattle.rb_rules.specs.Tokens.{Is, IsAny}
-use Rattle.rb_rules.specs.Forms.{Inside}
-use Rattle.rb_rules.specs.Grammar.{IsRow, BRANCH_WORDS, LOOP_WORDS, Then, DerivesBody, DerivesTerm, DerivesArms, DerivesElse, DerivesSubject, DerivesWhens, DerivesPatterns}
+use Rattle.rb_rules.specs.Forms.{Inside, is_begin}
+use Rattle.rb_rules.specs.Grammar.{IsRow, BRANCH_WORDS, LOOP_WORDS, Then, Parted, RescueVariable, DerivesBody, DerivesTerm, DerivesArms, DerivesElse, DerivesSubject, DerivesWhens, DerivesPatterns, DerivesGuarded, DerivesRescues, DerivesRaised, DerivesEnsure}
 use Rattle.rb_rules.specs.Grammar.Then.{Word, Line, LineWord}
+use Rattle.rb_rules.specs.Grammar.RescueVariable.{NoVariable, Bound}
 use Rattle.rb_rules.specs.Grammar.DerivesArms.{NoArm, MoreArms}
 use Rattle.rb_rules.specs.Grammar.DerivesElse.{NoElse, SomeElse}
 use Rattle.rb_rules.specs.Grammar.DerivesSubject.{NoSubject, SomeSubject}
 use Rattle.rb_rules.specs.Grammar.DerivesPatterns.{LastPattern, MorePatterns}
 use Rattle.rb_rules.specs.Grammar.DerivesWhens.{NoWhen, MoreWhens}
-use Rattle.rb_rules.specs.Grammar.DerivesPrimary.{Branches, Loops, Cases}
-use Rattle.rb_grammar.proofs.Steps.{same}
-use Rattle.rb_completion_laws.proofs.Steps.{Rel, Stands, Seq, stands-as, seq-stands, reach-as, reach-one, gap-stands, Plain, plainly, seq, done, refusing, choosing, One, one-stands, expecting, parted, answering, if-seen, Perhaps, perhaps-stands, nothing, something, Closing, stands-end, seq-closing, closingly, headed-closing, last-stands, closing, before-last}
-use Rattle.rb_completion_laws.proofs.Viable.{Viable, ABody, ASimple, ATerm, APrimary, ends-so, body-stands, simple-stands, term-stands}
+use Rattle.rb_rules.specs.Grammar.DerivesGuarded.{Unrescued, Rescued}
+use Rattle.rb_rules.specs.Grammar.DerivesRescues.{NoRescue, MoreRescues}
+use Rattle.rb_rules.specs.Grammar.DerivesRaised.{AnyError, SomeErrors}
+use Rattle.rb_rules.specs.Grammar.DerivesEnsure.{NoEnsure, SomeEnsure}
+use Rattle.rb_rules.specs.Grammar.DerivesPrimary.{Branches, Loops, Guards, Cases}
+use Rattle.rb_grammar.proofs.Steps.{same, identifier}
+use Rattle.rb_completion_laws.proofs.Steps.{Rel, Reach, Completes, Stands, Seq, stands-as, seq-stands, reach-as, reach-more, reach-one, complete-as, complete-then, complete-behind, complete-reach, Goes, bind, goes-as, gap-stands, Plain, plainly, seq, done, refusing, choosing, One, one-stands, expecting, naming, taken, parted, answering, if-seen, Perhaps, perhaps-stands, nothing, something, Closing, stands-end, seq-closing, closingly, headed-closing, last-stands, closing, before-last}
+use Rattle.rb_completion_laws.proofs.Begins.{noded}
+use Rattle.rb_completion_laws.proofs.Viable.{Viable, ABody, AParted, Bodied, bodied, ASimple, ATerm, APrimary, ends-so, name-stands, body-stands, simple-stands, term-stands}
 
 pub end-stands : Stands (One shape.End)
 unfolding shape_of
@@ -95,6 +104,23 @@ do-goes xs = choosing (sees shape.Do xs)
     (λ e. plainly (expecting shape.Do do-one xs) (λ us zs h. (h.0, inl h.1, h.2)))
     (λ e. plainly (expecting shape.Separator separator-stands xs) (λ us zs h. (h.0, inr (inl h.1), h.2)))
 
+-- ---- the variable of a `rescue`
+
+abbrev AVariable : Rel
+AVariable us zs = (v : Option PlacedName) × RescueVariable v us zs
+
+variable-stands : Stands AVariable
+variable-stands zs c = record { whole = zs; clear = c; derives = (None, NoVariable _) }
+
+bound : (a : Token) → Is shape.Arrow a → (us zs : List Token) → One shape.Identifier us zs → AVariable (a ∷ us) zs
+bound a is us zs h = subst (λ v. AVariable (a ∷ v) zs) (sym h.2) (_, Bound _ _ _ _ is (identifier h.0 h.1))
+
+variable-goes : (xs : List Token) → Plain xs (rescue_variable xs) AVariable
+unfolding rescue_variable
+variable-goes xs = if-seen shape.Arrow (λ ts. _) xs
+    (λ a as' is. plainly (answering Some (naming shape.Identifier name-stands as')) (bound a is))
+    (done None xs (λ zs. (None, NoVariable _)))
+
 module _ (nested : Form → Bool → Parser Tree) (ih : Viable nested) (turns : ℕ) (free : Bool) where
   abbrev AnElse : Rel
   AnElse us zs = (o : Option Tree) × DerivesElse free o us zs
@@ -105,7 +131,7 @@ module _ (nested : Form → Bool → Parser Tree) (ih : Viable nested) (turns : 
   else-goes : (xs : List Token) → Plain xs (otherwise nested turns free xs) AnElse
   unfolding otherwise
   else-goes xs = if-seen shape.Else (λ ts. _) xs
-      (λ t ts is. plainly (answering Some (ih.body free ts)) (λ us zs h. (_, SomeElse _ _ _ _ _ is h.1)))
+      (λ t ts is. plainly (answering Some (bodied (ih.body free ts))) (λ us zs h. (_, SomeElse _ _ _ _ _ is h.1)))
       (done None xs (λ zs. (None, NoElse _ _)))
 
   abbrev SomeArms : Rel
@@ -123,7 +149,7 @@ module _ (nested : Form → Bool → Parser Tree) (ih : Viable nested) (turns : 
       let b = body-stands Inside free in
       let t = seq-stands then-stands b in
       let c = seq-stands (simple-stands false free) t in
-      seq (expecting shape.Elsif elsif-one xs) c (λ _ ks. seq (ih.simple free ks) t (λ _ ps. seq (then-goes ps) b (λ _ qs. answering _ (ih.body free qs))))
+      seq (expecting shape.Elsif elsif-one xs) c (λ _ ks. seq (ih.simple free ks) t (λ _ ps. seq (then-goes ps) b (λ _ qs. answering _ (bodied (ih.body free qs)))))
 
   arms-more : (us zs : List Token) → Seq AnArm SomeArms us zs → SomeArms us zs
   arms-more us zs h = subst (λ v. SomeArms v zs) (sym h.first.first.2) (_, MoreArms _ _ _ _ _ _ _ _ _ _ h.first.first.1 h.first.second.first.1 h.first.second.second.first h.first.second.second.second.1 h.second.1)
@@ -158,7 +184,7 @@ module _ (nested : Form → Bool → Parser Tree) (ih : Viable nested) (turns : 
       let b = stands-end (body-stands Inside free) a in
       let t = stands-end then-stands b in
       headed-closing k (closingly
-      (seq-closing (ih.simple free ks) t (λ c ps. seq-closing (then-goes ps) b (λ _ qs. seq-closing (ih.body free qs) a (λ body rs.
+      (seq-closing (ih.simple free ks) t (λ c ps. seq-closing (then-goes ps) b (λ _ qs. seq-closing (bodied (ih.body free qs)) a (λ body rs.
       seq-closing (arms-of-go word rs) o (λ arms us. seq-closing (else-goes us) e (λ other vs. closing shape.End end-stands _ (λ place. ends-so _ _ (rolls-If _ _ _ _ _ _)) vs))))))
       (λ last us zs h. (
         _,
@@ -173,7 +199,7 @@ module _ (nested : Form → Bool → Parser Tree) (ih : Viable nested) (turns : 
       let b = stands-end (body-stands Inside free) e in
       let d = stands-end opens-stands b in
       headed-closing k (closingly
-      (seq-closing (ih.simple false ks) d (λ c ps. seq-closing (do-goes ps) b (λ _ qs. seq-closing (ih.body free qs) e (λ body rs. closing shape.End end-stands _ (λ place. ends-so _ _ (rolls-While _ _ _ _)) rs))))
+      (seq-closing (ih.simple false ks) d (λ c ps. seq-closing (do-goes ps) b (λ _ qs. seq-closing (bodied (ih.body free qs)) e (λ body rs. closing shape.End end-stands _ (λ place. ends-so _ _ (rolls-While _ _ _ _)) rs))))
       (λ last us zs h. (
         _,
         Loops _ _ _ _ _ _ _ _ _ _ is (subst (λ v. ASimple false false us v) h.second.first.2 h.first).1 h.second.first.1
@@ -221,7 +247,7 @@ module _ (nested : Form → Bool → Parser Tree) (ih : Viable nested) (turns : 
       let b = body-stands Inside free in
       let t = seq-stands then-stands b in
       let p = seq-stands patterns-stand t in
-      seq (expecting shape.When when-one xs) p (λ _ ks. seq (patterns-from' turns [] ks) t (λ _ ps. seq (then-goes ps) b (λ _ qs. answering _ (ih.body free qs))))
+      seq (expecting shape.When when-one xs) p (λ _ ks. seq (patterns-from' turns [] ks) t (λ _ ps. seq (then-goes ps) b (λ _ qs. answering _ (bodied (ih.body free qs)))))
 
   when-stands : Stands AWhen
   when-stands = seq-stands when-one (seq-stands patterns-stand (seq-stands then-stands (body-stands Inside free)))
@@ -256,3 +282,169 @@ module _ (nested : Form → Bool → Parser Tree) (ih : Viable nested) (turns : 
       headed-closing k (closingly
       (seq-closing (subject-goes ks) w (λ s ps. seq-closing (parted (whens-from turns [] (skip_separators ps))) o (λ arms us. seq-closing (else-goes us) e (λ other vs. closing shape.End end-stands _ (λ place. ends-so _ _ (rolls-Case _ _ _ _)) vs))))
       (λ last us zs h. (_, Cases _ _ _ _ _ _ _ _ _ _ _ _ is h.first.1 h.second.first.first h.second.first.second.2 (before-last h.second.second).1 h.second.second.second.0)))
+
+  -- ---- guards
+
+  abbrev Raised : Rel
+  Raised us zs = (ps : List Tree) × DerivesRaised free ps us zs
+
+  raised-stands : Stands Raised
+  raised-stands zs c = record { whole = zs; clear = c; derives = ([], AnyError _ _) }
+
+  raised-goes : (xs : List Token) → Plain xs (spec.raised nested turns free xs) Raised
+  unfolding spec.raised spec.patterns
+  raised-goes xs = choosing (rescues_all xs)
+      (λ e. done [] xs (λ zs. ([], AnyError _ _)))
+      (λ e. plainly (patterns-from' turns [] xs) (λ us zs h. (_, SomeErrors _ _ _ _ h.1)))
+
+  -- what a clause is before its body
+  abbrev Opening : Rel
+  Opening = Seq (One shape.Rescue) (Seq Raised (Seq AVariable Then))
+
+  abbrev AClause : Rel
+  AClause = Seq Opening (ABody Inside free)
+
+  -- what parts it from another clause
+  abbrev APartedClause : Rel
+  APartedClause = Seq Opening (AParted Inside free)
+
+  clause-made : (D : Rel) (us zs : List Token) → Seq (One shape.Rescue) (Seq Raised (Seq AVariable (Seq Then D))) us zs → Seq Opening D us zs
+  clause-made D us zs h = record {
+    mid = h.second.second.second.mid;
+    first = record { mid = h.mid; first = h.first; second = record { mid = h.second.mid; first = h.second.first; second = record { mid = h.second.second.mid; first = h.second.second.first; second = h.second.second.second.first } } };
+    second = h.second.second.second.second;
+  }
+
+  clause-goes : (k : Token) (ks : List Token) → Is shape.Rescue k →
+      Goes (rescue_clause nested turns free (k ∷ ks)) (λ c ys. Reach (k ∷ ks) ys AClause × (sees shape.Rescue ys ≡ true → Reach (k ∷ ks) ys APartedClause)) (λ rest. Completes (k ∷ ks) rest AClause)
+  unfolding rescue_clause
+  clause-goes k ks is =
+      let one = reach-one shape.Rescue k ks is in
+      let b = body-stands Inside free in
+      let t = seq-stands then-stands b in
+      let v = seq-stands variable-stands t in
+      taken shape.Rescue _ k ks is (bind (raised-goes ks) (λ rest q. complete-as (complete-behind one (complete-then q v)) (clause-made _))
+      (λ found ps rp. bind (variable-goes ps) (λ rest q. complete-as (complete-behind one (complete-behind rp (complete-then q t))) (clause-made _))
+      (λ variable qs rq. bind (then-goes qs) (λ rest q. complete-as (complete-behind one (complete-behind rp (complete-behind rq (complete-then q b)))) (clause-made _))
+      (λ place rs rr. bind (ih.body free rs) (λ rest q. complete-as (complete-behind one (complete-behind rp (complete-behind rq (complete-behind rr q)))) (clause-made _))
+      (λ body ys m. record { told = (reach-as (reach-more one (reach-more rp (reach-more rq (reach-more rr m.0)))) (clause-made _), λ e. reach-as (reach-more one (reach-more rp (reach-more rq (reach-more rr (m.1 e))))) (clause-made _)) })))))
+
+  -- clauses behind what parts a body from them
+  abbrev SomeClauses : Rel
+  SomeClauses us zs = (before : Tree) (ws : List Token) → Parted before ws us → (clause : Rescue Tree) × (clauses : List (Rescue Tree)) × DerivesRescues free before (clause ∷ clauses) ws zs
+
+  clause-with : {D : Rel} (us vs zs : List Token) (h : Seq Opening D us vs) (body : Tree) (ms : List Token) → DerivesBody Inside free body h.mid ms → (more : List (Rescue Tree)) → DerivesRescues free body more ms zs → SomeClauses us zs
+  clause-with us vs zs h body ms d more m before ws p =
+      let o = h.first in
+      let start = subst (λ v. Parted before ws v) o.first.2 p in
+      (_, _, MoreRescues _ _ _ _ _ _ _ _ _ _ _ _ _ _ start o.first.1 o.second.first.1 o.second.second.first.1 o.second.second.second d m)
+
+  last-clause : (us zs : List Token) → AClause us zs → SomeClauses us zs
+  last-clause us zs h = clause-with us zs zs h h.second.0 zs h.second.1 [] (NoRescue _ _ _)
+
+  more-clauses : (us zs : List Token) → Seq APartedClause SomeClauses us zs → SomeClauses us zs
+  more-clauses us zs h =
+      let b = h.first.second in
+      let m = h.second b.0 b.1 b.3 in
+      clause-with us h.mid zs h.first b.0 b.1 b.2 (m.0 ∷ m.1) m.2
+
+  abbrev IsSome : List (Rescue Tree) → Type 0
+  IsSome [] = ⊥
+  IsSome (c ∷ cs) = Unit {0}
+
+  added : (found : List (Rescue Tree)) (c : Rescue Tree) → IsSome (found ++ c ∷ [])
+  added [] c = tt
+  added (f ∷ found) c = tt
+
+  abbrev Clausal : List Token → Outcome (List (Rescue Tree)) → Type 0
+  Clausal xs o = Goes o (λ cs ys. IsSome cs × Reach xs ys SomeClauses) (λ rest. Completes xs rest SomeClauses)
+
+  -- a clause, and those behind it
+  abbrev From : ℕ → Type 0
+  From n = (found : List (Rescue Tree)) (k : Token) (ks : List Token) → Is shape.Rescue k → Clausal (k ∷ ks) (and_then (rescue_clause nested turns free (k ∷ ks)) (λ c. rescues_from nested turns free n (found ++ c ∷ [])))
+
+  behind-clause : (n : ℕ) → From n → (found : List (Rescue Tree)) → IsSome found → (all ys : List Token) → Reach all ys AClause → (sees shape.Rescue ys ≡ true → Reach all ys APartedClause) → Clausal all (rescues_from nested turns free (suc n) found ys)
+  unfolding rescues_from
+  behind-clause n again found some all [] r p = record { told = (some, reach-as r last-clause) }
+  behind-clause n again found some all (t ∷ ts) r p = choosing (same_shape (shape_of t.kind) shape.Rescue)
+      (λ e. goes-as (again found t ts (same _ _ e)) (λ cs ys m. (m.0, reach-as (reach-more (p e) m.1) more-clauses)) (λ rest q. complete-as (complete-behind (p e) q) more-clauses))
+      (λ e. record { told = (some, reach-as r last-clause) })
+
+  clauses-from : (n : ℕ) → From n
+  unfolding rescues_from
+  clauses-from zero found k ks is = bind (clause-goes k ks is) (λ rest q. complete-as q last-clause) (λ c ys m. record { told = complete-as (complete-reach m.0) last-clause })
+  clauses-from (suc n) found k ks is = bind (clause-goes k ks is) (λ rest q. complete-as q last-clause) (λ c ys m. behind-clause n (clauses-from n) (found ++ c ∷ []) (added found c) (k ∷ ks) ys m.0 m.1)
+
+  -- a body with some clauses
+  abbrev ARescued : Rel
+  ARescued us zs = (body : Tree) × (clause : Rescue Tree) × (clauses : List (Rescue Tree)) × (ms : List Token) × DerivesBody Inside free body us ms × DerivesRescues free body (clause ∷ clauses) ms zs
+
+  rescued : (us zs : List Token) → Seq (AParted Inside free) SomeClauses us zs → ARescued us zs
+  rescued us zs h = let b = h.first in let m = h.second b.0 b.1 b.3 in (b.0, m.0, m.1, b.1, b.2, m.2)
+
+  -- a body, with clauses if there are any
+  abbrev Rescues : List (Rescue Tree) → Rel
+  Rescues [] = ABody Inside free
+  Rescues (c ∷ cs) = ARescued
+
+  some-rescued : (xs ys : List Token) (cs : List (Rescue Tree)) → IsSome cs → Reach xs ys ARescued → Reach xs ys (Rescues cs)
+  some-rescued xs ys [] some r = absurd some
+  some-rescued xs ys (c ∷ cs) some r = r
+
+  abbrev pub AGuarded : Rel
+  AGuarded us zs = (g : Guarded Tree) × DerivesGuarded free g us zs
+
+  bare-guarded : (us zs : List Token) → ABody Inside free us zs → AGuarded us zs
+  bare-guarded us zs h = (_, Unrescued _ _ _ _ _ _ h.1 (NoEnsure _ _))
+
+  rescued-guarded : (us zs : List Token) → ARescued us zs → AGuarded us zs
+  rescued-guarded us zs h = (_, Rescued _ _ _ _ _ _ _ _ _ _ _ h.4 h.5 (NoElse _ _) (NoEnsure _ _))
+
+  pub guarded-stands : Stands AGuarded
+  guarded-stands = stands-as (body-stands Inside free) bare-guarded
+
+  rescues-go : (n : ℕ) (xs ps : List Token) → Reach xs ps (ABody Inside free) → (sees shape.Rescue ps ≡ true → Reach xs ps (AParted Inside free)) →
+      Goes (rescues_from nested turns free n [] ps) (λ cs ys. Reach xs ys (Rescues cs)) (λ rest. Completes xs rest AGuarded)
+  unfolding rescues_from
+  rescues-go zero xs ps r p = record { told = complete-as (complete-reach r) bare-guarded }
+  rescues-go (suc n) xs [] r p = record { told = r }
+  rescues-go (suc n) xs (t ∷ ts) r p = choosing (same_shape (shape_of t.kind) shape.Rescue)
+      (λ e. goes-as (clauses-from n [] t ts (same _ _ e)) (λ cs ys m. some-rescued xs ys cs m.0 (reach-as (reach-more (p e) m.1) rescued)) (λ rest q. complete-as (complete-behind (p e) q) (λ us zs h. rescued-guarded us zs (rescued us zs h))))
+      (λ e. record { told = r })
+
+  abbrev AnEnsure : Rel
+  AnEnsure us zs = (o : Option Tree) × DerivesEnsure free o us zs
+
+  ensure-stands : Stands AnEnsure
+  ensure-stands zs c = record { whole = zs; clear = c; derives = (None, NoEnsure _ _) }
+
+  ensure-goes : (xs : List Token) → Plain xs (spec.ensure nested turns free xs) AnEnsure
+  unfolding spec.ensure
+  ensure-goes xs = if-seen shape.Ensure (λ ts. _) xs
+      (λ t ts is. plainly (answering Some (bodied (ih.body free ts))) (λ us zs h. (_, SomeEnsure _ _ _ _ _ is h.1)))
+      (done None xs (λ zs. (None, NoEnsure _ _)))
+
+  whole-bare : (us zs : List Token) → Seq (ABody Inside free) AnEnsure us zs → AGuarded us zs
+  whole-bare us zs h = (_, Unrescued _ _ _ _ _ _ h.first.1 h.second.1)
+
+  whole-rescued : (us zs : List Token) → Seq ARescued (Seq AnElse AnEnsure) us zs → AGuarded us zs
+  whole-rescued us zs h = (_, Rescued _ _ _ _ _ _ _ _ _ _ _ h.first.4 h.first.5 h.second.first.1 h.second.second.1)
+
+  behind-rescues : (body : Tree) (xs : List Token) (cs : List (Rescue Tree)) (ys : List Token) → Reach xs ys (Rescues cs) →
+      Plain {A = Guarded Tree} xs (and_then (otherwise_behind nested turns free cs ys) (λ other. λ zs. and_then (spec.ensure nested turns free zs) (λ last. λ vs. Ok (record { body = body; rescues = cs; otherwise = other; ensure = last }, vs)))) AGuarded
+  unfolding otherwise_behind
+  behind-rescues body xs [] ys r = goes-as (answering _ (ensure-goes ys)) (λ g zs m. reach-as (reach-more r m) whole-bare) (λ rest q. complete-as (complete-behind r q) whole-bare)
+  behind-rescues body xs (c ∷ cs) ys r = goes-as (seq (else-goes ys) ensure-stands (λ other zs. answering _ (ensure-goes zs))) (λ g zs m. reach-as (reach-more r m) whole-rescued) (λ rest q. complete-as (complete-behind r q) whole-rescued)
+
+  pub guarded-goes : (xs : List Token) → Plain xs (guarded nested turns free xs) AGuarded
+  unfolding guarded rescues
+  guarded-goes xs = bind (ih.body free xs) (λ rest q. complete-as q bare-guarded) (λ body ps m. bind (rescues-go turns xs ps m.0 m.1) (λ rest q. q) (λ cs ys r. behind-rescues body xs cs ys r))
+
+  -- a form that nothing is made of, and a `begin`
+  abbrev pub Guarding : Tree → Type 0
+  Guarding t = Compound t × (is_begin t ≡ true)
+
+  pub guards-go : (k : Token) (ks : List Token) → Is shape.Begin k → Closing (k ∷ ks) (guards nested turns free (k ∷ ks)) Guarding (APrimary free)
+  unfolding guards
+  guards-go k ks is = headed-closing k (closingly (seq-closing (guarded-goes ks) (last-stands end-stands) (λ g ps. closing shape.End end-stands _ (λ place. (ends-so _ _ (rolls-Begin _ _), noded _ _ (rolls-Begin _ _))) ps))
+      (λ last us zs h. (_, Guards _ _ _ _ _ _ is (before-last h).1 h.second.0)))

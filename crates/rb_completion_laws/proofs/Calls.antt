@@ -33,7 +33,7 @@ use Rattle.rb_rules.specs.Grammar.DerivesDo.{NoDo, SomeDo}
 use Rattle.rb_grammar.proofs.Steps.{same, seen, within-more, within-token, label, identifier}
 use Rattle.rb_grammar.proofs.Lists.{and-left, and-right, Allowed, Ordered, last-ordered, more-ordered, last-got, Fresh, apart-all, noted-new}
 use Rattle.rb_completion_laws.proofs.Steps.{Rel, Reach, Completes, Stands, Seq, stands-as, seq-stands, reach-as, reach-more, reach-one, reach-token, reach-within, complete-as, complete-then, complete-behind, complete-token, Goes, bind, goes-as, choosing, Plain, plainly, done, refusing, answering, headed-closing, One, new_token, one-stands, expecting, naming, gap, if-seen, Ended, AnyEnd, Closing, stands-end, seq-closing, closingly, Last, last-stands, closing, before-last, before-one, taken, led, out, reach-this}
-use Rattle.rb_completion_laws.proofs.Viable.{Viable, ATerm, body-stands, term-stands}
+use Rattle.rb_completion_laws.proofs.Viable.{Viable, bodied, ATerm, body-stands, term-stands}
 use Rattle.rb_completion_laws.proofs.Branches.{end-stands}
 use Rattle.rb_completion_laws.proofs.Lists.{paren-one, bracket-one, brace-one, ClosedBy, closed-stands, behind-argument-goes}
 use Rattle.rb_completion_laws.proofs.Fresh.{new_name, new-name}
@@ -402,7 +402,7 @@ module _ (nested : Form → Bool → Parser Tree) (ih : Viable nested) (turns : 
   block-goes D opener closer make one t ts is =
       let e = last-stands one in
       let b = stands-end (body-stands Inside true) e in
-      taken opener _ t ts is (headed-closing t (closingly (seq-closing (bars-go ts) b (λ names ps. seq-closing (ih.body true ps) e (λ body qs. closing closer one _ (λ place. tt) qs)))
+      taken opener _ t ts is (headed-closing t (closingly (seq-closing (bars-go ts) b (λ names ps. seq-closing (bodied (ih.body true ps)) e (λ body qs. closing closer one _ (λ place. tt) qs)))
       (λ last us zs h. make t last h.first.0 _ us h.mid zs is h.first.1 (before-last h.second).1 h.second.second.0)))
 
   braces-go : (t : Token) (ts : List Token) → Is shape.OpenBrace t → Closing (t ∷ ts) (block nested turns free shape.OpenBrace shape.CloseBrace (t ∷ ts)) AnyBlock (ABlock free)

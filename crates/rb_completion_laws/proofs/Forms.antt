@@ -1,11 +1,15 @@
 -- Each form that is begun can be completed, however deep others nest in it.
 use Rattle.std.proofs.Common.{ℕ, zero, suc, true, false, List}
+use Rattle.rb_tree.specs.declared.syntax.Guarded.{Guarded}
+use Rattle.rb_tree.specs.declared.syntax.Tree.{Tree}
 use Rattle.rb_tree.specs.declared.token.Token.{Token}
-use Rattle.rb_expr.specs.Rules.{statement, longest_body, tern}
+use Rattle.rb_expr.specs.Rules.{statement, longest_body, guarded, tern}
 use Rattle.rb_expr.specs.Grammar.{parsed}
 use Rattle.rb_rules.specs.Forms.{Site, Inside, is_open}
+use Rattle.rb_rules.specs.Grammar.{DerivesGuarded}
 use Rattle.rb_completion_laws.proofs.Steps.{Plain, refusing}
-use Rattle.rb_completion_laws.proofs.Viable.{Viable, ABody, AStatement, ATerm, body-stands, simple-stands, value-stands, term-stands, level-stands, negated-stands, front-stands}
+use Rattle.rb_completion_laws.proofs.Viable.{Viable, ABody, bodied, AStatement, ATerm, body-stands, simple-stands, value-stands, term-stands, level-stands, negated-stands, front-stands}
+use Rattle.rb_completion_laws.proofs.Branches.{guarded-goes}
 use Rattle.rb_completion_laws.proofs.Operators.{prefixed-goes, negated-goes, operation-goes, tern-goes}
 use Rattle.rb_completion_laws.proofs.Statements.{value-goes, simple-goes, statement-goes, body-goes}
 
@@ -40,4 +44,8 @@ a-statement-goes depth at xs = statement-goes (parsed depth) (viable depth) dept
 
 pub a-body-goes : (depth : ℕ) (at : Site) (xs : List Token) → Plain xs (longest_body depth (is_open at) xs) (ABody at true)
 unfolding longest_body
-a-body-goes depth at xs = body-goes (parsed depth) (viable depth) depth true at xs
+a-body-goes depth at xs = bodied (body-goes (parsed depth) (viable depth) depth true at xs)
+
+pub a-guarded-goes : (depth : ℕ) (xs : List Token) → Plain xs (guarded depth xs) (λ us zs. (g : Guarded Tree) × DerivesGuarded true g us zs)
+unfolding guarded
+a-guarded-goes depth xs = guarded-goes (parsed depth) (viable depth) depth true xs

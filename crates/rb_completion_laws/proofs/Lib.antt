@@ -1,4 +1,5 @@
 pub mod Steps
+pub mod Begins
 pub mod Viable
 pub mod Branches
 pub mod Lists

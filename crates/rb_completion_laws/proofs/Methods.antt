@@ -1,10 +1,11 @@
 -- Methods that are begun can be completed.
-use Rattle.std.proofs.Common.{◌≡◌, ℕ, ◌==◌, Bool, true, false, if◌then◌else◌, List, [], ◌∷◌, length, Option, Some, None, is_some, Ok, Err, codes, inl, inr, refl, sym, ap, subst, bytes_eq}
+use Rattle.std.proofs.Common.{◌≡◌, ℕ, suc, ◌==◌, Bool, true, false, if◌then◌else◌, List, [], ◌∷◌, length, Option, Some, None, is_some, Ok, Err, codes, inl, inr, refl, sym, ap, subst, bytes_eq}
 use Rattle.std.proofs.lemmas.Slice.Eq.{bytes_eq-Decides}
 use denote.Enum.Bare.{true_same}
 use Rattle.srb_terms.specs.declared.span.Span.{Span}
 use Rattle.rb_tree.specs.contracts.token.Shape.{the_type}
 use Rattle.rb_tree.specs.Tokens.{shape_of, same_shape}
+use Rattle.rb_tree.specs.declared.syntax.Guarded.{Guarded}
 use Rattle.rb_tree.specs.declared.syntax.PlacedName.{PlacedName}
 use Rattle.rb_tree.specs.declared.syntax.Tree.{Tree}
 use Rattle.rb_tree.specs.declared.syntax.Visibility.{Visibility}
@@ -14,23 +15,23 @@ use Rattle.rb_tree.specs.declared.token.TokenKind.TheVariants as kind
 use Rattle.rb_tree.specs.declared.token.Shape.{Shape}
 use Rattle.rb_tree.specs.declared.token.Shape.TheVariants as shape
 use Rattle.rb_expr.specs.Grammar.{parsed}
-use Rattle.rb_expr.specs.Reading.{Outcome, sees, skip_separators}
-use Rattle.rb_expr.specs.Rules.{body, longest_body}
+use Rattle.rb_expr.specs.Reading.{Outcome, and_then, sees, skip_separators}
+use Rattle.rb_expr.specs.Rules.{guarded}
+use Rattle.rb_expr.specs.Branches as branches
 use Rattle.rb_expr.specs.Statements as statements
 use Rattle.rb_decl.specs.declared.method.Head.{Head}
 use Rattle.rb_decl.specs.Methods.{visibility, visibility_of, operator_text, operator_name, plain_name, method_name, own, method_head, defined, method}
-use Rattle.rb_rules.specs.Tokens.{IsIdentifier}
-use Rattle.rb_rules.specs.Forms.{Site, Inside, METHODS}
-use Rattle.rb_rules.specs.Grammar.{IsRow, VISIBILITIES, MethodName, Owner, DerivesMethod, DerivesDeclaration}
+use Rattle.rb_rules.specs.Tokens.{Is, IsIdentifier}
+use Rattle.rb_rules.specs.Forms.{Site, METHODS}
+use Rattle.rb_rules.specs.Grammar.{IsRow, VISIBILITIES, MethodName, Owner, DerivesGuarded, DerivesMethod, DerivesDeclaration}
 use Rattle.rb_rules.specs.Grammar.MethodName.{Plain as PlainName, Writer, Capital, Operator}
 use Rattle.rb_rules.specs.Grammar.Owner.{Other, Own}
 use Rattle.rb_rules.specs.Grammar.DerivesMethod.{Def}
 use Rattle.rb_rules.specs.Grammar.DerivesDeclaration.{Method, VisibleMethod}
 use Rattle.rb_grammar.proofs.Parameters.{Links}
 use Rattle.rb_completion_laws.proofs.Steps.{Rel, Reach, Completes, Stands, Seq, seq-stands, reach-as, reach-more, reach-this, complete-as, complete-then, complete-behind, Goes, bind, goes-as, choosing, Plain, plainly, seq, done, refusing, answering, headed, One, new_token, one-stands, expecting, if-seen, Perhaps, nothing, something, before-one}
-use Rattle.rb_completion_laws.proofs.Viable.{ABody, body-stands}
-use Rattle.rb_completion_laws.proofs.Branches.{end-stands}
-use Rattle.rb_completion_laws.proofs.Forms.{a-body-goes}
+use Rattle.rb_completion_laws.proofs.Branches.{end-stands, guarded-stands}
+use Rattle.rb_completion_laws.proofs.Forms.{viable, a-guarded-goes}
 use Rattle.rb_completion_laws.proofs.Parameters.{assign-one, Parameters, parameters-stand, parameters-go}
 
 -- ---- the name
@@ -123,18 +124,24 @@ own-goes xs = if-seen shape.SelfWord (λ ts. _) xs
 
 -- ---- the whole
 
-body-goes : (d : ℕ) (xs : List Token) → Plain xs (body d xs) (ABody Inside true)
-unfolding body
-body-goes d xs = a-body-goes d Inside xs
+abbrev AGuarded : Rel
+AGuarded us zs = (g : Guarded Tree) × DerivesGuarded true g us zs
+
+-- what is read behind a body
+abbrev behind_body : ℕ → Outcome Tree → Outcome (Guarded Tree)
+behind_body d o = and_then o (λ body. λ ps. and_then (branches.rescues (parsed (suc d)) (suc d) true ps) (λ clauses. λ qs. and_then (branches.otherwise_behind (parsed (suc d)) (suc d) true clauses qs) (λ other. λ rs.
+    and_then (branches.ensure (parsed (suc d)) (suc d) true rs) (λ last. λ us. Ok (record { body = body; rescues = clauses; otherwise = other; ensure = last }, us)))))
 
 -- one more separator before a body is passed over
-body-behind : (d : ℕ) (ws ys : List Token) → Links ws ys → Plain ws (body d ys) (ABody Inside true)
-unfolding body longest_body statements.body same_shape
-body-behind d ws ys (inl e) = subst (λ us. Plain ws (body d us) (ABody Inside true)) (sym e) (body-goes d ws)
-body-behind d ws ys (inr h) =
-    let separator : same_shape (shape_of h.0.kind) shape.Separator ≡ true = true_same the_type _ _ h.1 in
-    let skips : skip_separators (h.0 ∷ ws) ≡ skip_separators ws = ap (λ b. if b then skip_separators ws else h.0 ∷ ws) separator in
-    subst (λ us. Plain ws (body d us) (ABody Inside true)) (sym h.2) (subst (λ us. Plain ws (statements.statements (parsed d) d true false us) (ABody Inside true)) (sym skips) (body-goes d ws))
+skips : (d : ℕ) (s : Token) (ws : List Token) → Is shape.Separator s → guarded (suc d) (s ∷ ws) ≡ guarded (suc d) ws
+unfolding guarded branches.guarded parsed statements.body same_shape
+skips d s ws is =
+    let separator : same_shape (shape_of s.kind) shape.Separator ≡ true = true_same the_type _ _ is in
+    ap (λ b. behind_body d (statements.statements (parsed d) d true false (if b then skip_separators ws else s ∷ ws))) separator
+
+guarded-behind : (d : ℕ) (ws ys : List Token) → Links ws ys → Plain ws (guarded (suc d) ys) AGuarded
+guarded-behind d ws ys (inl e) = subst (λ us. Plain ws (guarded (suc d) us) AGuarded) (sym e) (a-guarded-goes (suc d) ws)
+guarded-behind d ws ys (inr h) = subst (λ us. Plain ws (guarded (suc d) us) AGuarded) (sym h.2) (subst (λ o. Plain ws o AGuarded) (sym (skips d h.0 ws h.1)) (a-guarded-goes (suc d) ws))
 
 -- what stands before the body
 abbrev AHead : Rel
@@ -158,18 +165,18 @@ head-goes d shown start xs =
 abbrev AMethod : Option Visibility → Option Token → Rel
 AMethod shown front us zs = (t : Tree) × DerivesMethod shown front t us zs
 
-method-made : (shown : Option Visibility) (front : Option Token) (us zs : List Token) → Seq AHead (Seq (ABody Inside true) (One shape.End)) us zs → AMethod shown front us zs
+method-made : (shown : Option Visibility) (front : Option Token) (us zs : List Token) → Seq AHead (Seq AGuarded (One shape.End)) us zs → AMethod shown front us zs
 method-made shown front us zs h =
     let b = before-one h.second in
     let m = h.first.second.second.second in
     subst (λ v. AMethod shown front v zs) (sym h.first.first.2) (_, Def _ _ _ _ _ _ _ _ _ _ _ _ _ _ h.first.first.1 h.first.second.first.1 h.first.second.second.first.2 m.1 m.2 m.3 b.1 h.second.second.1)
 
-defined-goes : (d : ℕ) (shown : Option Visibility) (front : Option Token) (start : ℕ) (xs : List Token) → Plain xs (defined d shown start xs) (AMethod shown front)
+defined-goes : (d : ℕ) (shown : Option Visibility) (front : Option Token) (start : ℕ) (xs : List Token) → Plain xs (defined (suc d) shown start xs) (AMethod shown front)
 unfolding defined
 defined-goes d shown front start xs =
-    let e = seq-stands (body-stands Inside true) end-stands in
-    bind (head-goes d shown start xs) (λ rest q. complete-as (complete-then q e) (method-made shown front)) (λ h ps m.
-    goes-as (seq (body-behind d m.0 ps m.1) end-stands (λ b qs. answering _ (expecting shape.End end-stands qs)))
+    let e = seq-stands (guarded-stands (parsed d) (viable d) d true) end-stands in
+    bind (head-goes (suc d) shown start xs) (λ rest q. complete-as (complete-then q e) (method-made shown front)) (λ h ps m.
+    goes-as (seq (guarded-behind d m.0 ps m.1) end-stands (λ b qs. answering _ (expecting shape.End end-stands qs)))
     (λ t ys k. reach-as (reach-more m.2 k) (method-made shown front)) (λ rest q. complete-as (complete-behind m.2 q) (method-made shown front)))
 
 -- ---- the visibility
@@ -207,11 +214,11 @@ Declared us zs = (at : Site) → (t : Tree) × DerivesDeclaration at t us zs
 declared-alone : (us zs : List Token) → AMethod None None us zs → Declared us zs
 declared-alone us zs m at = (_, Method _ _ _ _ m.1)
 
-method-by : (d : ℕ) (v : Token) (vs : List Token) (o : Option Visibility) → Shows v o → Plain (v ∷ vs) (if is_some o then defined d o v.span.start vs else defined d o v.span.start (v ∷ vs)) Declared
+method-by : (d : ℕ) (v : Token) (vs : List Token) (o : Option Visibility) → Shows v o → Plain (v ∷ vs) (if is_some o then defined (suc d) o v.span.start vs else defined (suc d) o v.span.start (v ∷ vs)) Declared
 method-by d v vs None h = plainly (defined-goes d None None v.span.start (v ∷ vs)) declared-alone
 method-by d v vs (Some word) h = headed v (plainly (defined-goes d (Some word) (Some v) v.span.start vs) (λ us zs m at. (_, VisibleMethod _ _ _ _ _ _ _ h.1.0 h.1.1 m.1)))
 
-pub method-goes : (d : ℕ) (xs : List Token) → Plain xs (method d xs) Declared
+pub method-goes : (d : ℕ) (xs : List Token) → Plain xs (method (suc d) xs) Declared
 unfolding method visibility
 method-goes d [] = plainly (defined-goes d None None 0 []) declared-alone
 method-goes d (v ∷ vs) = method-by d v vs (visibility (v ∷ vs)) (shows-at v.kind v.span vs)

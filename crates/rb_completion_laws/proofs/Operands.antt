@@ -28,10 +28,11 @@ use Rattle.rb_expr.specs.Reading.{Outcome, Parser, and_then, start_of, sees, ski
 use Rattle.rb_expr.specs.Shapes.{is_signed, sees_number}
 use Rattle.rb_expr.specs.Lists.{end_with}
 use Rattle.rb_expr.specs.Calls.{optional_brackets, optional_block}
+use Rattle.rb_expr.specs.Branches.{guards}
 use Rattle.rb_expr.specs.Operands as spec
 use Rattle.rb_expr.specs.Operands.{number_by, number, touching, signed, unraised, negative, top_constant, word_by, word, call_of, interpolation, pieces_from, pieces, called, yielding, super_call, elements_from, elements, array_from, array, label_pair, arrow_pair, a_pair, pairs_from, pairs, hash_from, hash, parens, primary_by, primary}
 use Rattle.rb_rules.specs.Tokens.{Is, IsAny, StartsWith, Touches, IsConstant, NUMBERS}
-use Rattle.rb_rules.specs.Forms.{Inside, LeavesBlock}
+use Rattle.rb_rules.specs.Forms.{Inside, LeavesBlock, is_begin}
 use Rattle.rb_rules.specs.Grammar.{Gap, IsRow, SIGNS, DerivesBody, DerivesBrackets, DerivesBlock, DerivesBlockBehind, DerivesPieces, DerivesElements, DerivesPairs, DerivesPair}
 use Rattle.rb_rules.specs.Grammar.DerivesBrackets.{NoBrackets}
 use Rattle.rb_rules.specs.Grammar.DerivesBlockBehind.{NoBlock, SomeBlock}
@@ -44,9 +45,10 @@ use Rattle.rb_rules.specs.Grammar.DerivesCallee.{Own, YieldWord, SuperWord}
 use Rattle.rb_rules.specs.Grammar.DerivesPrimary.{WholeNumber, FloatNumber, SignedWhole, SignedFloat, String, SymbolName, InstanceName, ConstantName, FromTop, SelfPlace, NilPlace, TruePlace, FalsePlace, NameAlone, CallWithBrackets, CallWithBlock, Yields, Supers, EmptyArray, SomeArray, EmptyHash, SomeHash, InParens}
 use Rattle.rb_grammar.proofs.Steps.{same, shown, Within, within-self, within-token, within-more, identifier, constant, instance_variable, label, symbol, whole, float, text}
 use Rattle.rb_grammar.proofs.Lists.{and-left, and-right}
-use Rattle.rb_completion_laws.proofs.Steps.{Rel, This, Fits, Reach, Completes, Stands, Seq, stands-as, seq-stands, reach-as, reach-more, reach-this, reach-self, reach-token, reach-within, reach-fits, complete-as, complete-then, complete-behind, complete-new, complete-token, complete-fits, Goes, bind, goes-as, choosing, Plain, plainly, seq, refusing, answering, headed-closing, One, one-stands, expecting, naming, Ended, AnyEnd, Closing, stands-end, seq-closing, closingly, parted-closing, Last, last-stands, closing, before-last, before-one, led, out, worded-known, named-known, follow-words, follow-name, caught, fits-start, fits-before}
-use Rattle.rb_completion_laws.proofs.Viable.{Viable, ABody, ATerm, APrimary, Signs, Uses, ends-so, SPrimary, signed-stands, body-stands, term-stands}
-use Rattle.rb_completion_laws.proofs.Branches.{branch-goes, repeated-goes, choice-goes}
+use Rattle.rb_completion_laws.proofs.Steps.{Rel, This, Fits, Reach, Completes, Stands, Seq, stands-as, seq-stands, reach-as, reach-more, reach-this, reach-self, reach-token, reach-within, reach-headed, reach-fits, complete-as, complete-then, complete-behind, complete-new, complete-token, complete-fits, Goes, bind, goes-as, choosing, Plain, plainly, seq, refusing, answering, headed-closing, One, one-stands, expecting, naming, Ended, AnyEnd, Closing, stands-end, seq-closing, closingly, parted-closing, Last, last-stands, closing, before-last, before-one, led, out, worded-known, named-known, follow-words, follow-name, caught, fits-start, fits-before}
+use Rattle.rb_completion_laws.proofs.Begins.{primary-begins}
+use Rattle.rb_completion_laws.proofs.Viable.{Viable, ABody, bodied, ATerm, APrimary, Like, LikePrimary, Signs, Uses, ends-so, SPrimary, signed-stands, body-stands, term-stands}
+use Rattle.rb_completion_laws.proofs.Branches.{branch-goes, repeated-goes, choice-goes, guards-go}
 use Rattle.rb_completion_laws.proofs.Lists.{paren-one, bracket-one, brace-one, ClosedBy, closed-stands, element-goes}
 use Rattle.rb_completion_laws.proofs.Calls.{label-one, Given, given-goes, SomeBrackets, InBrackets, ABlock, Behind, MayBlock, block-behind-goes}
 
@@ -57,6 +59,17 @@ Primary free e last us zs = APrimary free last us zs × Signs (APrimary free las
 
 abbrev pub Primed : Bool → List Token → Outcome Tree → Type 0
 Primed free xs o = Goes o (λ t ys. (last : Token) × Within xs (last ∷ ys) × Reach xs ys (Primary free (ending_of t) last)) (λ rest. Completes xs rest (AnyEnd (SPrimary free)))
+
+-- with a tree that is a `begin` only where the one that is answered is
+abbrev pub Likened : Bool → List Token → Outcome Tree → Type 0
+Likened free xs o = Goes o
+    (λ t ys. (last : Token) × Within xs (last ∷ ys) × Reach xs ys (λ us zs. LikePrimary free (is_begin t) last us zs × Signs (APrimary free last) us zs × Uses (ending_of t) free us zs))
+    (λ rest. Completes xs rest (AnyEnd (SPrimary free)))
+
+likened : (free : Bool) (t : Token) (ts : List Token) → (Is shape.Begin t → ⊥) → {o : Outcome Tree} → Primed free (t ∷ ts) o → Likened free (t ∷ ts) o
+likened free t ts other h = goes-as h
+    (λ v ys m. (m.0, m.1, reach-as (reach-headed m.1 m.2) (λ us zs d. ((d.0.0.0, d.0.0.1, λ e. primary-begins t other d.0.0.1 d.1), d.0.1, d.0.2))))
+    (λ rest q. q)
 
 abbrev pub is_number : Shape → Bool
 is_number shape.Whole = true
@@ -276,7 +289,7 @@ module _ (nested : Form → Bool → Parser Tree) (ih : Viable nested) (turns : 
 
   code-goes : (xs : List Token) → Plain xs (interpolation nested turns free xs) APiece
   unfolding interpolation
-  code-goes xs = seq (expecting shape.Interpolation interpolation-one xs) (seq-stands (body-stands Inside true) brace-one) (λ _ os. seq (ih.body true os) brace-one (λ _ qs. answering _ (expecting shape.CloseBrace brace-one qs)))
+  code-goes xs = seq (expecting shape.Interpolation interpolation-one xs) (seq-stands (body-stands Inside true) brace-one) (λ _ os. seq (bodied (ih.body true os)) brace-one (λ _ qs. answering _ (expecting shape.CloseBrace brace-one qs)))
 
   pieces-more : (before u last : Token) (us zs : List Token) → Is shape.Text u → Seq (Seq APiece (This u)) (Pieces u last) us zs → Pieces before last us zs
   pieces-more before u last us zs is h =
@@ -518,7 +531,7 @@ module _ (nested : Form → Bool → Parser Tree) (ih : Viable nested) (turns : 
 
   parens-go : (o : Token) (os : List Token) → Is shape.OpenParen o → Closing (o ∷ os) (parens nested turns free (o ∷ os)) Compound (APrimary free)
   unfolding parens
-  parens-go o os is = headed-closing o (closingly (seq-closing (ih.body true os) (last-stands paren-one) (λ body ps. closing shape.CloseParen paren-one _ (λ place. ends-so _ _ (rolls-Parens _ _)) ps))
+  parens-go o os is = headed-closing o (closingly (seq-closing (bodied (ih.body true os)) (last-stands paren-one) (λ body ps. closing shape.CloseParen paren-one _ (λ place. ends-so _ _ (rolls-Parens _ _)) ps))
       (λ last us zs h. (_, InParens _ _ _ _ _ _ is (before-last h).1 h.second.0)))
 
   -- ---- all operands
@@ -548,9 +561,27 @@ module _ (nested : Form → Bool → Parser Tree) (ih : Viable nested) (turns : 
   primary-by shape.While t ts is = compound free shape.While refl t ts is (repeated-goes nested ih turns free test.Positive t ts (inl (is, refl)))
   primary-by shape.Until t ts is = compound free shape.Until refl t ts is (repeated-goes nested ih turns free test.Negative t ts (inr (inl (is, refl))))
   primary-by shape.Case t ts is = compound free shape.Case refl t ts is (choice-goes nested ih turns free t ts is)
+  primary-by shape.Begin t ts is = compound free shape.Begin refl t ts is (goes-as (guards-go nested ih turns free t ts is) (λ v ys m. (m.0.0, m.1)) (λ rest q. q))
   primary-by s t ts is = refusing (t ∷ ts) (signed-stands free)
 
-  pub primary-goes : (xs : List Token) → Primed free xs (primary nested turns free xs)
+  begins-like : (v : Tree) → is_begin v ≡ true → (t : Tree) → Like (is_begin v) t
+  begins-like v begins t e = absurd (cc)
+
+  begin-goes : (t : Token) (ts : List Token) → Is shape.Begin t → Likened free (t ∷ ts) (guards nested turns free (t ∷ ts))
+  begin-goes t ts is = goes-as (guards-go nested ih turns free t ts is)
+      (λ v ys m. (
+        m.1.0,
+        m.1.1,
+        reach-as (reach-fits m.1.2) (λ us zs d.
+            ((d.0.0, d.0.1, begins-like v m.0.1 d.0.0), unsigned (APrimary free m.1.0) t ts us zs (no-number shape.Begin refl t is) d.1, other-uses free v m.0.0 us zs)),
+      ))
+      (λ rest q. sign-complete free shape.Begin refl t ts rest is q)
+
+  pub primary-goes : (xs : List Token) → Likened free xs (primary nested turns free xs)
   unfolding primary
   primary-goes [] = refusing [] (signed-stands free)
-  primary-goes (t ∷ ts) = primary-by (shape_of t.kind) t ts refl
+  primary-goes (t ∷ ts) = by (same_shape (shape_of t.kind) shape.Begin) refl
+    where
+      by : (b : Bool) → same_shape (shape_of t.kind) shape.Begin ≡ b → Likened free (t ∷ ts) (primary_by nested turns free (Some (shape_of t.kind)) (t ∷ ts))
+      by true e = let is = same _ _ e in subst (λ s. Likened free (t ∷ ts) (primary_by nested turns free (Some s) (t ∷ ts))) (sym is) (begin-goes t ts is)
+      by false e = likened free t ts (λ is. let shown' = shown shape.Begin t ts is in absurd (cc)) (primary-by (shape_of t.kind) t ts refl)

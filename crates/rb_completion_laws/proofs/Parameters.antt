@@ -1,10 +1,11 @@
 -- Parameters that are begun can be completed, in their order and each name once.
 use Rattle.std.proofs.Common.{◌≡◌, ℕ, zero, suc, Bool, true, false, not, if◌then◌else◌, List, [], ◌∷◌, ◌++◌, Some, None, Ok, Err, inl, inr, refl, sym, ap, subst, ◌∙◌}
+use Rattle.srb_terms.specs.declared.param_kind.ParamKind.{ParamKind}
+use Rattle.srb_terms.specs.declared.param_kind.ParamKind.TheVariants as param_kind
 use Rattle.srb_terms.specs.declared.span.Span.{Span}
 use Rattle.rb_tree.specs.Tokens.{shape_of, same_shape}
 use Rattle.rb_tree.specs.declared.syntax.Tree.{Tree}
 use Rattle.rb_tree.specs.declared.syntax.Parameter.{Parameter}
-use Rattle.rb_tree.specs.declared.syntax.Parameter.TheVariants as parameter
 use Rattle.rb_tree.specs.declared.token.Token.{Token}
 use Rattle.rb_tree.specs.declared.token.TokenKind.{TokenKind}
 use Rattle.rb_tree.specs.declared.token.TokenKind.TheVariants as kind
@@ -13,9 +14,9 @@ use Rattle.rb_expr.specs.Reading.{Outcome, sees, after, skip_separators}
 use Rattle.rb_decl.specs.declared.parameter.Stage.{Stage}
 use Rattle.rb_decl.specs.declared.parameter.Stage.TheVariants as stage
 use Rattle.rb_decl.specs.Parameters as spec
-use Rattle.rb_decl.specs.Parameters.{name_of, stage_behind, is_among, fresh, noted, is_plain, is_first, is_last, plain, has_no_default, keyword, block, behind_comma, is_over, row_from, row, bracketed, bare, parameters_of}
+use Rattle.rb_decl.specs.Parameters.{parameter_of, stage_behind, is_among, fresh, noted, is_plain, is_first, is_last, plain, has_no_default, keyword, block, behind_comma, is_over, row_from, row, bracketed, bare, parameters_of}
 use Rattle.rb_rules.specs.Tokens.{Is, IsIdentifier, IsLabel}
-use Rattle.rb_rules.specs.Forms.{AreParameters, AreOptional, AreKeywords, IsNot, AreDistinct, name_of_parameter, names_of_parameters}
+use Rattle.rb_rules.specs.Forms.{AreParameters, AreKinds, AreOptionalKinds, AreKeyKinds, kinds_of, IsNot, AreDistinct, names_of_parameters}
 use Rattle.rb_rules.specs.Grammar.{Gap, GapIn, DerivesParameter, DerivesParameterList, DerivesParameters}
 use Rattle.rb_rules.specs.Grammar.GapIn.{Tight, Loose}
 use Rattle.rb_rules.specs.Grammar.DerivesParameter.{Required, Optional, RequiredKeyword, OptionalKeyword, BlockParameter}
@@ -33,78 +34,78 @@ use Rattle.rb_completion_laws.proofs.Forms.{a-term-goes}
 
 -- ---- orders and names
 
--- a parameter may come at a stage
-abbrev Comes : Parameter Tree → Stage → Type 0
-Comes (parameter.Required n s) at = is_first at ≡ true
-Comes (parameter.Optional n s v) at = is_plain at ≡ true
-Comes p at = Unit {0}
+-- a parameter of this kind may come at a stage
+abbrev Comes : ParamKind → Stage → Type 0
+Comes param_kind.Required at = is_first at ≡ true
+Comes param_kind.Optional at = is_plain at ≡ true
+Comes param_kind.Rest at = ⊥
+Comes k at = Unit {0}
 
-abbrev InOrder : Stage → List (Parameter Tree) → Type 0
-InOrder stage.Required ps = AreParameters ps
-InOrder stage.Optional ps = AreOptional ps
-InOrder stage.Keyword ps = AreKeywords ps
-InOrder stage.Block ps = Unit {0}
+abbrev InOrder : Stage → List ParamKind → Type 0
+InOrder stage.Required ks = AreKinds ks
+InOrder stage.Optional ks = AreOptionalKinds ks
+InOrder stage.Keyword ks = AreKeyKinds ks
+InOrder stage.Block ks = Unit {0}
 
-last-in-order : (at : Stage) (p : Parameter Tree) → Comes p at → InOrder at (p ∷ [])
-last-in-order stage.Required (parameter.Required n s) h = tt
-last-in-order stage.Optional (parameter.Required n s) h = absurd (cc)
-last-in-order stage.Keyword (parameter.Required n s) h = absurd (cc)
-last-in-order stage.Required (parameter.Optional n s v) h = tt
-last-in-order stage.Optional (parameter.Optional n s v) h = tt
-last-in-order stage.Keyword (parameter.Optional n s v) h = absurd (cc)
-last-in-order stage.Required (parameter.RequiredKeyword n s) h = tt
-last-in-order stage.Optional (parameter.RequiredKeyword n s) h = tt
-last-in-order stage.Keyword (parameter.RequiredKeyword n s) h = tt
-last-in-order stage.Required (parameter.OptionalKeyword n s v) h = tt
-last-in-order stage.Optional (parameter.OptionalKeyword n s v) h = tt
-last-in-order stage.Keyword (parameter.OptionalKeyword n s v) h = tt
-last-in-order stage.Required (parameter.Block n s) h = tt
-last-in-order stage.Optional (parameter.Block n s) h = tt
-last-in-order stage.Keyword (parameter.Block n s) h = tt
-last-in-order stage.Block p h = tt
+last-in-order : (at : Stage) (k : ParamKind) → Comes k at → InOrder at (k ∷ [])
+last-in-order stage.Required param_kind.Required h = tt
+last-in-order stage.Optional param_kind.Required h = absurd (cc)
+last-in-order stage.Keyword param_kind.Required h = absurd (cc)
+last-in-order stage.Required param_kind.Optional h = tt
+last-in-order stage.Optional param_kind.Optional h = tt
+last-in-order stage.Keyword param_kind.Optional h = absurd (cc)
+last-in-order stage.Required param_kind.Key h = tt
+last-in-order stage.Optional param_kind.Key h = tt
+last-in-order stage.Keyword param_kind.Key h = tt
+last-in-order stage.Required param_kind.KeyOptional h = tt
+last-in-order stage.Optional param_kind.KeyOptional h = tt
+last-in-order stage.Keyword param_kind.KeyOptional h = tt
+last-in-order stage.Required param_kind.Block h = tt
+last-in-order stage.Optional param_kind.Block h = tt
+last-in-order stage.Keyword param_kind.Block h = tt
+last-in-order stage.Required param_kind.Rest h = absurd h
+last-in-order stage.Optional param_kind.Rest h = absurd h
+last-in-order stage.Keyword param_kind.Rest h = absurd h
+last-in-order stage.Block k h = tt
 
-more-in-order : (at : Stage) (p : Parameter Tree) (more : List (Parameter Tree)) → Comes p at → is_last (stage_behind p) ≡ false → InOrder (stage_behind p) more → InOrder at (p ∷ more)
-more-in-order stage.Required (parameter.Required n s) more h l o = o
-more-in-order stage.Optional (parameter.Required n s) more h l o = absurd (cc)
-more-in-order stage.Keyword (parameter.Required n s) more h l o = absurd (cc)
-more-in-order stage.Required (parameter.Optional n s v) more h l o = o
-more-in-order stage.Optional (parameter.Optional n s v) more h l o = o
-more-in-order stage.Keyword (parameter.Optional n s v) more h l o = absurd (cc)
-more-in-order stage.Required (parameter.RequiredKeyword n s) more h l o = o
-more-in-order stage.Optional (parameter.RequiredKeyword n s) more h l o = o
-more-in-order stage.Keyword (parameter.RequiredKeyword n s) more h l o = o
-more-in-order stage.Required (parameter.OptionalKeyword n s v) more h l o = o
-more-in-order stage.Optional (parameter.OptionalKeyword n s v) more h l o = o
-more-in-order stage.Keyword (parameter.OptionalKeyword n s v) more h l o = o
-more-in-order stage.Required (parameter.Block n s) more h l o = absurd (cc)
-more-in-order stage.Optional (parameter.Block n s) more h l o = absurd (cc)
-more-in-order stage.Keyword (parameter.Block n s) more h l o = absurd (cc)
-more-in-order stage.Block p more h l o = tt
-
-same-name : (p : Parameter Tree) → name_of p ≡ name_of_parameter p
-same-name (parameter.Required n s) = refl
-same-name (parameter.Optional n s v) = refl
-same-name (parameter.RequiredKeyword n s) = refl
-same-name (parameter.OptionalKeyword n s v) = refl
-same-name (parameter.Block n s) = refl
+more-in-order : (at : Stage) (k : ParamKind) (more : List ParamKind) → Comes k at → is_last (stage_behind k) ≡ false → InOrder (stage_behind k) more → InOrder at (k ∷ more)
+more-in-order stage.Required param_kind.Required more h l o = o
+more-in-order stage.Optional param_kind.Required more h l o = absurd (cc)
+more-in-order stage.Keyword param_kind.Required more h l o = absurd (cc)
+more-in-order stage.Required param_kind.Optional more h l o = o
+more-in-order stage.Optional param_kind.Optional more h l o = o
+more-in-order stage.Keyword param_kind.Optional more h l o = absurd (cc)
+more-in-order stage.Required param_kind.Key more h l o = o
+more-in-order stage.Optional param_kind.Key more h l o = o
+more-in-order stage.Keyword param_kind.Key more h l o = o
+more-in-order stage.Required param_kind.KeyOptional more h l o = o
+more-in-order stage.Optional param_kind.KeyOptional more h l o = o
+more-in-order stage.Keyword param_kind.KeyOptional more h l o = o
+more-in-order stage.Required param_kind.Block more h l o = absurd (cc)
+more-in-order stage.Optional param_kind.Block more h l o = absurd (cc)
+more-in-order stage.Keyword param_kind.Block more h l o = absurd (cc)
+more-in-order stage.Required param_kind.Rest more h l o = absurd h
+more-in-order stage.Optional param_kind.Rest more h l o = absurd h
+more-in-order stage.Keyword param_kind.Rest more h l o = absurd h
+more-in-order stage.Block k more h l o = tt
 
 -- none of these parameters has one of these names
 abbrev Fresh : List (List ℕ) → List (Parameter Tree) → Type 0
 Fresh names [] = Unit {0}
-Fresh names (p ∷ more) = (is_among names (name_of_parameter p) ≡ false) × Fresh names more
+Fresh names (p ∷ more) = (is_among names p.name ≡ false) × Fresh names more
 
 apart-all : (names : List (List ℕ)) (w : List ℕ) (more : List (Parameter Tree)) → Fresh (names ++ w ∷ []) more → Fresh names more × IsNot w (names_of_parameters more)
 apart-all names w [] h = (tt, tt)
-apart-all names w (p ∷ more) h = let here = apart names w (name_of_parameter p) h.0 in let rest = apart-all names w more h.1 in ((here.0, rest.0), (here.1, rest.1))
+apart-all names w (p ∷ more) h = let here = apart names w p.name h.0 in let rest = apart-all names w more h.1 in ((here.0, rest.0), (here.1, rest.1))
 
 -- ---- one parameter
 
 abbrev SomeParameter : Stage → List (List ℕ) → Rel
-SomeParameter at names us zs = (q : Parameter Tree) × DerivesParameter q us zs × Comes q at × (is_among names (name_of_parameter q) ≡ false)
+SomeParameter at names us zs = (q : Parameter Tree) × DerivesParameter q us zs × Comes q.kind at × (is_among names q.name ≡ false)
 
 -- of the name and kind of this one
 abbrev LikeParameter : Stage → List (List ℕ) → Parameter Tree → Rel
-LikeParameter at names p us zs = (q : Parameter Tree) × DerivesParameter q us zs × Comes q at × (is_among names (name_of_parameter q) ≡ false) × (stage_behind q ≡ stage_behind p) × (name_of q ≡ name_of p)
+LikeParameter at names p us zs = (q : Parameter Tree) × DerivesParameter q us zs × Comes q.kind at × (is_among names q.name ≡ false) × (stage_behind q.kind ≡ stage_behind p.kind) × (q.name ≡ p.name)
 
 abbrev Placed : Stage → List (List ℕ) → List Token → Outcome (Parameter Tree) → Type 0
 Placed at names xs o = Goes o (λ p ys. Reach xs ys (LikeParameter at names p)) (λ rest. Completes xs rest (SomeParameter at names))
@@ -120,13 +121,13 @@ assign-one = one-stands kind.Assign shape.Assign refl (λ zs. refl)
 optional-made : (at : Stage) (names : List (List ℕ)) (t : Token) (w : List ℕ) → IsIdentifier t w → is_plain at ≡ true → is_among names w ≡ false → (us zs : List Token) → Seq (One shape.Assign) (ATerm true) us zs → SomeParameter at names (t ∷ us) zs
 optional-made at names t w is p new us zs h = subst (λ v. SomeParameter at names (t ∷ v) zs) (sym h.first.2) (_, Optional _ _ _ _ _ _ is h.first.1 h.second.1, p, new)
 
-optional-like : (at : Stage) (names : List (List ℕ)) (t : Token) (w : List ℕ) (v : Tree) (s : Span) → IsIdentifier t w → is_plain at ≡ true → is_among names w ≡ false → (us zs : List Token) → Seq (One shape.Assign) (ATerm true) us zs → LikeParameter at names (parameter.Optional w s v) (t ∷ us) zs
-optional-like at names t w v s is p new us zs h = subst (λ u. LikeParameter at names (parameter.Optional w s v) (t ∷ u) zs) (sym h.first.2) (_, Optional _ _ _ _ _ _ is h.first.1 h.second.1, p, new, refl, refl)
+optional-like : (at : Stage) (names : List (List ℕ)) (t : Token) (w : List ℕ) (v : Tree) (s : Span) → IsIdentifier t w → is_plain at ≡ true → is_among names w ≡ false → (us zs : List Token) → Seq (One shape.Assign) (ATerm true) us zs → LikeParameter at names (parameter_of param_kind.Optional w s (Some v)) (t ∷ us) zs
+optional-like at names t w v s is p new us zs h = subst (λ u. LikeParameter at names (parameter_of param_kind.Optional w s (Some v)) (t ∷ u) zs) (sym h.first.2) (_, Optional _ _ _ _ _ _ is h.first.1 h.second.1, p, new, refl, refl)
 
 -- the name alone
-required-goes : (at : Stage) (names : List (List ℕ)) (t : Token) (w : List ℕ) (ts : List Token) → IsIdentifier t w → is_plain at ≡ true → is_among names w ≡ false → Placed at names (t ∷ ts) (if is_first at then Ok (parameter.Required w t.span, ts) else Err ts)
+required-goes : (at : Stage) (names : List (List ℕ)) (t : Token) (w : List ℕ) (ts : List Token) → IsIdentifier t w → is_plain at ≡ true → is_among names w ≡ false → Placed at names (t ∷ ts) (if is_first at then Ok (parameter_of param_kind.Required w t.span None, ts) else Err ts)
 required-goes at names t w ts is p new = choosing (is_first at)
-    (λ e. record { told = reach-token t (reach-as (reach-self ts) (λ us zs h. subst (λ v. LikeParameter at names (parameter.Required w t.span) (t ∷ us) v) h (_, Required _ _ _ is, e, new, refl, refl))) })
+    (λ e. record { told = reach-token t (reach-as (reach-self ts) (λ us zs h. subst (λ v. LikeParameter at names (parameter_of param_kind.Required w t.span None) (t ∷ us) v) h (_, Required _ _ _ is, e, new, refl, refl))) })
     (λ e. record { told = complete-token t (complete-as (complete-new ts (seq-stands assign-one (term-stands true))) (optional-made at names t w is p new)) })
 
 plain-goes : (d : ℕ) (at : Stage) (names : List (List ℕ)) (t : Token) (w : List ℕ) (ts : List Token) → IsIdentifier t w → is_plain at ≡ true → is_among names w ≡ false → Placed at names (t ∷ ts) (plain d at w t.span ts)
@@ -141,7 +142,7 @@ plain-goes d at names t w (a ∷ as') is p new = choosing (same_shape (shape_of 
 keyword-goes : (d : ℕ) (at : Stage) (names : List (List ℕ)) (t : Token) (w : List ℕ) (ts : List Token) → IsLabel t w → is_among names w ≡ false → Placed at names (t ∷ ts) (keyword d w t.span ts)
 unfolding keyword
 keyword-goes d at names t w ts is new = choosing (has_no_default ts)
-    (λ e. record { told = reach-token t (reach-as (reach-self ts) (λ us zs h. subst (λ v. LikeParameter at names (parameter.RequiredKeyword w t.span) (t ∷ us) v) h (_, RequiredKeyword _ _ _ is, tt, new, refl, refl))) })
+    (λ e. record { told = reach-token t (reach-as (reach-self ts) (λ us zs h. subst (λ v. LikeParameter at names (parameter_of param_kind.Key w t.span None) (t ∷ us) v) h (_, RequiredKeyword _ _ _ is, tt, new, refl, refl))) })
     (λ e. bind (a-term-goes d ts) (λ rest q. complete-token t (complete-as q (λ us zs h. (_, OptionalKeyword _ _ _ _ _ is h.1, tt, new))))
     (λ v ys m. record { told = reach-token t (reach-as m (λ us zs h. (_, OptionalKeyword _ _ _ _ _ is h.1, tt, new, refl, refl))) }))
 
@@ -167,8 +168,8 @@ block-complete at names a is ts = complete-token a (complete-as (complete-new ts
 
 block-at : (at : Stage) (names : List (List ℕ)) (a : Token) → Is shape.Ampersand a → (k : TokenKind) (s : Span) (ts : List Token) → Placed at names (a ∷ record { kind = k; span = s } ∷ ts) (block names (record { kind = k; span = s } ∷ ts))
 unfolding block
-block-at at names a is (kind.Identifier w) s ts = new-or-not names w (λ name. Ok (parameter.Block name s, ts)) (Err (record { kind = kind.Identifier w; span = s } ∷ ts))
-    (λ new. record { told = reach-token a (reach-as (reach-this (record { kind = kind.Identifier w; span = s }) ts) (λ us zs h. subst (λ v. LikeParameter at names (parameter.Block w s) (a ∷ v) zs) (sym h) (_, BlockParameter _ _ _ _ is refl, tt, new, refl, refl))) })
+block-at at names a is (kind.Identifier w) s ts = new-or-not names w (λ name. Ok (parameter_of param_kind.Block name s None, ts)) (Err (record { kind = kind.Identifier w; span = s } ∷ ts))
+    (λ new. record { told = reach-token a (reach-as (reach-this (record { kind = kind.Identifier w; span = s }) ts) (λ us zs h. subst (λ v. LikeParameter at names (parameter_of param_kind.Block w s None) (a ∷ v) zs) (sym h) (_, BlockParameter _ _ _ _ is refl, tt, new, refl, refl))) })
     (record { told = block-complete at names a is (record { kind = kind.Identifier w; span = s } ∷ ts) })
 block-at at names a is k s ts = record { told = block-complete at names a is (record { kind = k; span = s } ∷ ts) }
 
@@ -196,10 +197,10 @@ parameter-goes d at names (t ∷ ts) = parameter-at d at names t.kind t.span ts
 -- ---- rows
 
 abbrev Row : Bool → Stage → List (List ℕ) → Rel
-Row bracketed at names us zs = (p : Parameter Tree) × (more : List (Parameter Tree)) × DerivesParameterList bracketed (p ∷ more) us zs × InOrder at (p ∷ more) × Fresh names (p ∷ more) × AreDistinct (names_of_parameters (p ∷ more))
+Row bracketed at names us zs = (p : Parameter Tree) × (more : List (Parameter Tree)) × DerivesParameterList bracketed (p ∷ more) us zs × InOrder at (kinds_of (p ∷ more)) × Fresh names (p ∷ more) × AreDistinct (names_of_parameters (p ∷ more))
 
 one-row : (bracketed : Bool) (at : Stage) (names : List (List ℕ)) (us zs : List Token) → SomeParameter at names us zs → Row bracketed at names us zs
-one-row bracketed at names us zs h = (h.0, [], LastParameter _ _ _ _ h.1, last-in-order at h.0 h.2, (h.3, tt), (tt, tt))
+one-row bracketed at names us zs h = (h.0, [], LastParameter _ _ _ _ h.1, last-in-order at h.0.kind h.2, (h.3, tt), (tt, tt))
 
 row-stands : (bracketed : Bool) (at : Stage) (names : List (List ℕ)) → Stands (Row bracketed at names)
 row-stands bracketed at names = stands-as (parameter-stands at names) (one-row bracketed at names)
@@ -215,19 +216,18 @@ going-on at xs e = (or-left _ _ e, seen' (sees shape.Comma xs) (or-right (is_las
     seen' true e = refl
     seen' false e = absurd (cc)
 
-more-row : (bracketed : Bool) (at : Stage) (names : List (List ℕ)) (p : Parameter Tree) → is_last (stage_behind p) ≡ false → (us zs : List Token) →
-    Seq (Seq (Seq (LikeParameter at names p) (One shape.Comma)) (GapIn bracketed)) (Row bracketed (stage_behind p) (noted names (name_of p))) us zs → Row bracketed at names us zs
+more-row : (bracketed : Bool) (at : Stage) (names : List (List ℕ)) (p : Parameter Tree) → is_last (stage_behind p.kind) ≡ false → (us zs : List Token) →
+    Seq (Seq (Seq (LikeParameter at names p) (One shape.Comma)) (GapIn bracketed)) (Row bracketed (stage_behind p.kind) (noted names p.name)) us zs → Row bracketed at names us zs
 more-row bracketed at names p last us zs h =
     let d = before-one h.first.first in
     let q = d.0 in
     let m = h.second in
-    let new : is_among names (name_of q) ≡ false = subst (λ w. is_among names w ≡ false) (sym (same-name q)) d.3 in
-    let names' : noted names (name_of p) ≡ names ++ name_of_parameter q ∷ [] = ap (noted names) (sym d.5) ∙ noted-new names (name_of q) new ∙ ap (λ w. names ++ w ∷ []) (same-name q) in
-    let parts = apart-all names (name_of_parameter q) (m.0 ∷ m.1) (subst (λ ns. Fresh ns (m.0 ∷ m.1)) names' m.4) in (
+    let names' : noted names p.name ≡ names ++ q.name ∷ [] = ap (noted names) (sym d.5) ∙ noted-new names q.name d.3 in
+    let parts = apart-all names q.name (m.0 ∷ m.1) (subst (λ ns. Fresh ns (m.0 ∷ m.1)) names' m.4) in (
       q,
       m.0 ∷ m.1,
       MoreParameters _ _ _ _ _ _ _ _ d.1 h.first.first.second.1 h.first.second m.2,
-      more-in-order at q (m.0 ∷ m.1) d.2 (ap is_last d.4 ∙ last) (subst (λ s. InOrder s (m.0 ∷ m.1)) (sym d.4) m.3),
+      more-in-order at q.kind (kinds_of (m.0 ∷ m.1)) d.2 (ap is_last d.4 ∙ last) (subst (λ s. InOrder s (kinds_of (m.0 ∷ m.1))) (sym d.4) m.3),
       (d.3, parts.0),
       (parts.1, m.5),
     )
@@ -238,11 +238,11 @@ comma-next {D = D} xs ps r e = let s = seen shape.Comma ps e in reach-more r (su
 row-by : (d : ℕ) (bracketed : Bool) (n : ℕ) (at : Stage) (names : List (List ℕ)) (found : List (Parameter Tree)) (xs : List Token) → Plain xs (row_from d bracketed n at names found xs) (Row bracketed at names)
 unfolding row_from
 row-by d bracketed zero at names found xs = refusing xs (row-stands bracketed at names)
-row-by d bracketed (suc n) at names found xs = bind (parameter-goes d at names xs) (λ rest q. complete-as q (one-row bracketed at names)) (λ p ps r. choosing (is_over (stage_behind p) ps)
+row-by d bracketed (suc n) at names found xs = bind (parameter-goes d at names xs) (λ rest q. complete-as q (one-row bracketed at names)) (λ p ps r. choosing (is_over (stage_behind p.kind) ps)
     (λ e. record { told = reach-as r (λ us zs h. one-row bracketed at names us zs (h.0, h.1, h.2, h.3)) })
-    (λ e. let on = going-on (stage_behind p) ps e in
+    (λ e. let on = going-on (stage_behind p.kind) ps e in
     let rc = reach-more (comma-next xs ps r on.1) (gap-in bracketed (after ps)) in
-    goes-as (row-by d bracketed n (stage_behind p) (noted names (name_of p)) (found ++ p ∷ []) (behind_comma bracketed ps))
+    goes-as (row-by d bracketed n (stage_behind p.kind) (noted names p.name) (found ++ p ∷ []) (behind_comma bracketed ps))
     (λ t ys m. reach-as (reach-more rc m) (more-row bracketed at names p on.0)) (λ rest q. complete-as (complete-behind rc q) (more-row bracketed at names p on.0))))
 
 row-goes : (d : ℕ) (bracketed : Bool) (xs : List Token) → Plain xs (row d bracketed xs) (Row bracketed stage.Required [])

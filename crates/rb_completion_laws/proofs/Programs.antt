@@ -101,7 +101,7 @@ opened openings.Statement a b c D xs h k l = l
 item-by : (d : ℕ) (at : Site) → is_open at ≡ true → (xs : List Token) → Plain xs (namespace (item d false) d (is_top at) xs) (ADeclaration at) → Plain xs (by_opening (what_opens xs) (namespace (item d false) d (is_top at)) (method (suc d)) (statement (suc d) true) xs) (AStatement at true)
 item-by d at o xs h = opened (what_opens xs) (namespace (item d false) d (is_top at)) (method (suc d)) (statement (suc d) true) (AStatement at true) xs
     (plainly h (λ us zs k. (_, DeclaredStatement _ _ _ _ _ o k.1)))
-    (plainly (method-goes (suc d) xs) (λ us zs k. (_, DeclaredStatement _ _ _ _ _ o (k at).1)))
+    (plainly (method-goes d xs) (λ us zs k. (_, DeclaredStatement _ _ _ _ _ o (k at).1)))
     (subst (λ b. Plain xs (statement (suc d) b xs) (AStatement at true)) o (a-statement-goes (suc d) at xs))
 
 item-goes : (d : ℕ) (at : Site) → is_open at ≡ true → (xs : List Token) → Plain xs (item d (is_top at) xs) (AStatement at true)

@@ -1,6 +1,6 @@
 -- What holds of whatever a rule answers: what was read derives before other tokens too, and what was read before a refusal can be
 -- completed.
-use Rattle.std.proofs.Common.{◌≡◌, ℕ, Bool, true, false, if◌then◌else◌, List, [], ◌∷◌, ◌++◌, ◌⊎◌, inl, inr, Ok, Err, refl, sym, ap, subst, ◌∙◌, append_assoc}
+use Rattle.std.proofs.Common.{◌≡◌, ℕ, suc, ◌+◌, Bool, true, false, if◌then◌else◌, List, [], ◌∷◌, ◌++◌, length, ◌⊎◌, inl, inr, Ok, Err, refl, sym, ap, subst, ◌∙◌, append_assoc, length-append, arith}
 use Rattle.srb_terms.specs.declared.span.Span.{Span}
 use Rattle.rb_tree.specs.Tokens.{shape_of, same_shape}
 use Rattle.rb_tree.specs.declared.syntax.PlacedName.{PlacedName}
@@ -258,6 +258,22 @@ Ended xs ys D = (last : Token) × Within xs (last ∷ ys) × Reach xs ys (D last
 -- with some last token
 abbrev pub AnyEnd : (Token → Rel) → Rel
 AnyEnd D us zs = (last : Token) × D last us zs
+
+-- what begins with a token and ends with one still begins with it before others
+headed-still : (t last : Token) (ts ys us zs : List Token) → Within (t ∷ ts) (last ∷ ys) → Swapped (t ∷ ts) ys us zs → (vs : List Token) × (us ≡ t ∷ vs)
+headed-still t last ts ys us zs w s = by s.0 s.1 s.2
+  where
+    by : (front : List Token) → t ∷ ts ≡ front ++ ys → us ≡ front ++ zs → (vs : List Token) × (us ≡ t ∷ vs)
+    by [] e g =
+        let a : length (t ∷ ts) ≡ length ys = ap (λ (v : List Token). length v) e in
+        let b : length (t ∷ ts) ≡ length (w.0 ++ last ∷ ys) = ap (λ (v : List Token). length v) w.1 in
+        let c : length (w.0 ++ last ∷ ys) ≡ length w.0 + length (last ∷ ys) = length-append w.0 (last ∷ ys) in
+        let d : length (last ∷ ys) ≡ suc (length ys) = refl in
+        absurd (omega arith)
+    by (x ∷ front) e g = let i : x ≡ t = cc in (front ++ zs, g ∙ ap (λ (v : Token). v ∷ (front ++ zs)) i)
+
+pub reach-headed : {t last : Token} {ts ys : List Token} {D : Rel} → Within (t ∷ ts) (last ∷ ys) → Reach (t ∷ ts) ys D → Reach (t ∷ ts) ys (λ us zs. D us zs × ((vs : List Token) × (us ≡ t ∷ vs)))
+reach-headed {t = t} {last = last} {ts = ts} {ys = ys} w r zs f = let a = r zs f in record { whole = a.whole; swapped = a.swapped; fits = a.fits; derives = (a.derives, headed-still t last ts ys a.whole zs w a.swapped) }
 
 -- what is read is such and ends with a token, and what is answered is such
 abbrev pub Closing : {A : Type 0} → List Token → Outcome A → (A → Type 0) → (Token → Rel) → Type 0

@@ -24,6 +24,7 @@ use Rattle.rb_expr.specs.Reading.{Outcome, Parser, touches, words_of}
 use Rattle.rb_expr.specs.Shapes.{closes, is_index, is_index_after}
 use Rattle.rb_expr.specs.Statements.{ending_of, ending_of_suffix, ending_of_last}
 use Rattle.rb_rules.specs.Tokens.{Is, IsAny, IsOneOf, IsIdentifier, IsConstant, Touches}
+use Rattle.rb_rules.specs.Forms.{is_begin}
 use Rattle.rb_rules.specs.Grammar.{DOTS, IsRow, DerivesSuffix, DerivesIndex}
 use Rattle.rb_rules.specs.Grammar.DerivesBrackets.{NoBrackets}
 use Rattle.rb_rules.specs.Grammar.DerivesBlockBehind.{NoBlock}
@@ -35,7 +36,8 @@ use Rattle.rb_rules.specs.Grammar.DerivesCallee.{Of}
 use Rattle.rb_rules.specs.Grammar.DerivesPrefixed.{Posted}
 use Rattle.rb_grammar.proofs.Steps.{Within, within-token, within-more, identifier, constant}
 use Rattle.rb_completion_laws.proofs.Steps.{Rel, This, Reach, Completes, Seq, reach-as, reach-more, reach-this, reach-token, reach-within, complete-as, complete-behind, complete-new, complete-token, complete-reach, Goes, bind, goes-as, choosing, Ended, AnyEnd, follow-name, out}
-use Rattle.rb_completion_laws.proofs.Viable.{Viable, AnOperand, AFront, Signs, Uses, ends-so, name-stands}
+use Rattle.rb_completion_laws.proofs.Begins.{posted-more}
+use Rattle.rb_completion_laws.proofs.Viable.{Viable, AnOperand, AFront, LikeFront, LikeOperand, Signs, Uses, ends-so, name-stands}
 use Rattle.rb_completion_laws.proofs.Calls.{added-got, AnIndex, index-goes}
 use Rattle.rb_completion_laws.proofs.Operands.{constant-one, IsCall, Tail, tail-goes, primary-goes}
 
@@ -192,44 +194,52 @@ module _ (nested : Form → Bool → Parser Tree) (ih : Viable nested) (turns : 
   ending-post r (x ∷ ss) s end = ends-so _ _ (rolls-Post r (x ∷ (ss ++ s ∷ [])) (record { start = (span_of r).start; end = end })) ∙ ap ending_of_last (added-got (x ∷ ss) s)
 
   -- an operand so far
-  abbrev SoFar : Ending → Token → Rel
-  SoFar e last us zs = AnOperand free last us zs × Signs (AnOperand free last) us zs × Uses e free us zs
+  abbrev SoFar : Bool → Ending → Token → Rel
+  SoFar begins e last us zs = LikeOperand free begins last us zs × Signs (AnOperand free last) us zs × Uses e free us zs
 
-  abbrev pub Post : Ending → Rel
-  Post e us zs = AFront free us zs × Uses e free us zs
+  abbrev pub Post : Bool → Ending → Rel
+  Post begins e us zs = LikeFront free begins us zs × Uses e free us zs
+
+  like-front : (begins : Bool) (last : Token) (us zs : List Token) → LikeOperand free begins last us zs → Signs (AnOperand free last) us zs → LikeFront free begins us zs
+  like-front begins last us zs o signs = ((_, Posted _ _ _ _ _ _ o.2, o.3), λ m is before raised. let s = signs m is before raised in (_, Posted _ _ _ _ _ _ s.2))
 
   as-front : (last : Token) (us zs : List Token) → AnOperand free last us zs → Signs (AnOperand free last) us zs → AFront free us zs
   as-front last us zs o signs = ((_, Posted _ _ _ _ _ _ o.2), λ m is before raised. let s = signs m is before raised in (_, Posted _ _ _ _ _ _ s.2))
 
+  plain-operand : (begins : Bool) (last : Token) (us zs : List Token) → LikeOperand free begins last us zs → AnOperand free last us zs
+  plain-operand begins last us zs o = (o.0, o.1, o.2)
+
   abbrev Row : List Token → Tree → List Token → Type 0
-  Row all t xs = (before : Token) × Within all (before ∷ xs) × Reach all xs (SoFar (ending_of t) before)
+  Row all t xs = (before : Token) × Within all (before ∷ xs) × Reach all xs (SoFar (is_begin t) (ending_of t) before)
 
-  with-suffix : (before last : Token) (us zs : List Token) (d : Seq (SoFar ending.Other before) (SomeSuffix before last) us zs) → AnOperand free last us zs × Signs (AnOperand free last) us zs
-  with-suffix before last us zs d = ((_, _, Suffixed _ _ _ _ _ _ _ _ _ d.first.0.2 d.second.1), λ m is b raised. let s = d.first.1 m is b raised in (_, _, Suffixed _ _ _ _ _ _ _ _ _ s.2 d.second.1))
-
-  forget : (e : Ending) (before : Token) (us zs : List Token) → SoFar e before us zs → SoFar ending.Other before us zs
-  forget e before us zs h = (h.0, h.1, tt)
+  with-suffix : (begins now : Bool) (e : Ending) (before last : Token) (us zs : List Token) (d : Seq (SoFar begins e before) (SomeSuffix before last) us zs) → LikeOperand free now last us zs × Signs (AnOperand free last) us zs
+  with-suffix begins now e before last us zs d = (
+    (_, _, Suffixed _ _ _ _ _ _ _ _ _ d.first.0.2 d.second.1, λ none. posted-more _ _ _),
+    λ m is b raised. let s = d.first.1 m is b raised in (_, _, Suffixed _ _ _ _ _ _ _ _ _ s.2 d.second.1),
+  )
 
   row-more : (all : List Token) (r : Tree) (end : ℕ) (ss : List (Suffix Tree)) (s : Suffix Tree) (end' : ℕ) (xs : List Token) (h : Row all (post_of r ss end) xs) (ys : List Token) → Ended xs ys (LikeSuffix (ending_of_suffix s) h.0) → Row all (post_of r (ss ++ s ∷ []) end') ys
   row-more all r end ss s end' xs h ys k = (
     k.0,
     within-more (reach-within h.2) k.1,
     reach-as (reach-more h.2 k.2) (λ us zs d.
-        let w = with-suffix h.0 k.0 us zs (record { mid = d.mid; first = forget _ h.0 _ _ d.first; second = d.second.0 }) in
-        (w.0, w.1, subst (λ e. Uses e free us zs) (sym (ending-post r ss s end')) (d.second.1 us d.first.0))),
+        let w = with-suffix _ (is_begin (post_of r (ss ++ s ∷ []) end')) _ h.0 k.0 us zs (record { mid = d.mid; first = d.first; second = d.second.0 }) in
+        (w.0, w.1, subst (λ e. Uses e free us zs) (sym (ending-post r ss s end')) (d.second.1 us (plain-operand _ h.0 us d.mid d.first.0)))),
   )
 
-  suffixes-by : (all : List Token) (r : Tree) (end n : ℕ) (ss : List (Suffix Tree)) (xs : List Token) → Row all (post_of r ss end) xs → Goes (suffixes_from nested turns free all r end n ss xs) (λ t ys. Reach all ys (Post (ending_of t))) (λ rest. Completes all rest (AFront free))
+  suffixes-by : (all : List Token) (r : Tree) (end n : ℕ) (ss : List (Suffix Tree)) (xs : List Token) → Row all (post_of r ss end) xs → Goes (suffixes_from nested turns free all r end n ss xs) (λ t ys. Reach all ys (Post (is_begin t) (ending_of t))) (λ rest. Completes all rest (AFront free))
   unfolding suffixes_from
-  suffixes-by all r end zero ss xs h = record { told = complete-as (complete-reach h.2) (λ us zs d. as-front h.0 us zs d.0 d.1) }
+  suffixes-by all r end zero ss xs h = record { told = complete-as (complete-reach h.2) (λ us zs d. as-front h.0 us zs (plain-operand _ h.0 us zs d.0) d.1) }
   suffixes-by all r end (suc n) ss xs h = bind (suffix-goes all h.0 xs h.1)
-      (λ rest q. complete-as (complete-behind h.2 q) (λ us zs d. let k = out d in let w = with-suffix h.0 k.0 us zs (record { mid = k.1.mid; first = forget _ h.0 _ _ k.1.first; second = k.1.second }) in as-front k.0 us zs w.0 w.1))
+      (λ rest q. complete-as (complete-behind h.2 q) (λ us zs d. let k = out d in let w = with-suffix _ true _ h.0 k.0 us zs k.1 in as-front k.0 us zs (plain-operand true k.0 us zs w.0) w.1))
       (elim [
         | Some s ↦ λ ys k. suffixes-by all r (span_of_suffix s).end n (ss ++ s ∷ []) ys (row-more all r end ss s (span_of_suffix s).end xs h ys k)
-        | None ↦ λ ys e. record { told = subst (λ v. Reach all v (Post (ending_of (post_of r ss end)))) e (reach-as h.2 (λ us zs d. (as-front h.0 us zs d.0 d.1, d.2))) }
+        | None ↦ λ ys e. record {
+          told = subst (λ v. Reach all v (Post (is_begin (post_of r ss end)) (ending_of (post_of r ss end)))) e (reach-as h.2 (λ us zs d. (like-front _ h.0 us zs d.0 d.1, d.2)));
+        }
       ])
 
-  pub post-goes : (xs : List Token) → Goes (post nested turns free xs) (λ t ys. Reach xs ys (Post (ending_of t))) (λ rest. Completes xs rest (AFront free))
+  pub post-goes : (xs : List Token) → Goes (post nested turns free xs) (λ t ys. Reach xs ys (Post (is_begin t) (ending_of t))) (λ rest. Completes xs rest (AFront free))
   unfolding post suffixes
   post-goes xs = bind (primary-goes nested ih turns free xs) (λ rest q. complete-as q (λ us zs d. as-front d.0 us zs (_, [], Bare _ _ _ _ _ d.1.0.1) (λ m is b raised. let s = d.1.1 m is b raised in (_, [], Bare _ _ _ _ _ s.1))))
-      (λ r ys h. suffixes-by xs r 0 turns [] ys (h.0, h.1, reach-as h.2 (λ us zs d. ((_, [], Bare _ _ _ _ _ d.0.1), (λ m is b raised. let s = d.1 m is b raised in (_, [], Bare _ _ _ _ _ s.1)), d.2))))
+      (λ r ys h. suffixes-by xs r 0 turns [] ys (h.0, h.1, reach-as h.2 (λ us zs d. ((_, [], Bare _ _ _ _ _ d.0.1, d.0.2), (λ m is b raised. let s = d.1 m is b raised in (_, [], Bare _ _ _ _ _ s.1)), d.2))))

@@ -10,13 +10,13 @@ use Rattle.rb_tree.specs.declared.token.TokenKind.TheVariants as kind
 use Rattle.rb_tree.specs.declared.token.Shape.TheVariants as shape
 use Rattle.rb_expr.specs.declared.form.Form.{Form}
 use Rattle.rb_expr.specs.declared.form.Form.TheVariants as form
-use Rattle.rb_expr.specs.Reading.{Parser}
+use Rattle.rb_expr.specs.Reading.{Outcome, Parser, sees}
 use Rattle.rb_expr.specs.Statements.{ending_of, ending_at}
 use Rattle.rb_expr.specs.declared.ending.Ending.{Ending}
 use Rattle.rb_expr.specs.declared.ending.Ending.TheVariants as ending
 use Rattle.rb_rules.specs.Tokens.{Is, IsBeforeNumber, IsRaised}
-use Rattle.rb_rules.specs.Forms.{Site, Inside}
-use Rattle.rb_rules.specs.Grammar.{DerivesBody, DerivesStatement, DerivesSimple, DerivesValue, DerivesTerm, DerivesLevel, DerivesPrefixed, DerivesOperand, DerivesPrimary, DerivesTarget, DerivesCallee}
+use Rattle.rb_rules.specs.Forms.{Site, Inside, is_begin}
+use Rattle.rb_rules.specs.Grammar.{posted, Parted, DerivesBody, DerivesStatement, DerivesSimple, DerivesValue, DerivesTerm, DerivesLevel, DerivesPrefixed, DerivesOperand, DerivesPrimary, DerivesTarget, DerivesCallee}
 use Rattle.rb_rules.specs.Grammar.Gap.{Closed}
 use Rattle.rb_rules.specs.Grammar.DerivesBody.{NoStatement}
 use Rattle.rb_rules.specs.Grammar.DerivesSimple.{Valued}
@@ -28,7 +28,7 @@ use Rattle.rb_rules.specs.Grammar.DerivesLevel.{Tighter, Plainly, Negated}
 use Rattle.rb_rules.specs.Grammar.DerivesPrefixed.{Posted}
 use Rattle.rb_rules.specs.Grammar.DerivesOperand.{Bare}
 use Rattle.rb_rules.specs.Grammar.DerivesPrimary.{NameAlone}
-use Rattle.rb_completion_laws.proofs.Steps.{Rel, Stands, stands-as, Plain, One, new_token, one-stands}
+use Rattle.rb_completion_laws.proofs.Steps.{Rel, Reach, Completes, Stands, stands-as, reach-as, complete-as, Goes, goes-as, Plain, One, new_token, one-stands}
 
 -- ---- with some tree
 
@@ -56,6 +56,17 @@ ATarget constants free us zs = (t : Tree) × DerivesTarget constants free t us z
 abbrev pub ACallee : Bool → Rel
 ACallee free us zs = (t : Tree) × DerivesCallee free t us zs
 
+-- a body and what parts it from a `rescue`
+abbrev pub AParted : Site → Bool → Rel
+AParted at free us zs = (t : Tree) × (ms : List Token) × DerivesBody at free t us ms × Parted t ms zs
+
+-- a body is read, and where a `rescue` is next, it is parted from it
+abbrev pub Bodied : Site → Bool → List Token → Outcome Tree → Type 0
+Bodied at free xs o = Goes o (λ t ys. Reach xs ys (ABody at free) × (sees shape.Rescue ys ≡ true → Reach xs ys (AParted at free))) (λ rest. Completes xs rest (ABody at free))
+
+pub bodied : {at : Site} {free : Bool} {xs : List Token} {o : Outcome Tree} → Bodied at free xs o → Plain xs o (ABody at free)
+bodied h = goes-as h (λ t ys m. m.0) (λ rest q. q)
+
 -- Where the tokens begin with a number that touches a `-` before them and is raised to no power, they are such with the `-` too.
 abbrev pub Signs : Rel → List Token → List Token → Type 0
 Signs D us zs = (m : Token) → Is shape.Minus m → IsBeforeNumber m us → ¬ IsRaised us → D (m ∷ us) zs
@@ -69,6 +80,46 @@ AFront free us zs = APrefixed free us zs × Signs (APrefixed free) us zs
 -- with a `-` in front they derive too
 abbrev pub ANegated : Bool → Rel
 ANegated free us zs = ALevel 9 free us zs × ((m : Token) → Is shape.Minus m → ALevel 9 free (m ∷ us) zs)
+
+-- ---- with a tree that is a `begin` only where another is
+
+-- the flag says whether the other is
+abbrev pub Like : Bool → Tree → Type 0
+Like begins t = begins ≡ false → is_begin t ≡ false
+
+abbrev pub LikeSimple : Bool → Bool → Bool → Rel
+LikeSimple constants free begins us zs = (t : Tree) × DerivesSimple constants free t us zs × Like begins t
+
+abbrev pub LikeValue : Bool → Bool → Bool → Rel
+LikeValue constants free begins us zs = (t : Tree) × DerivesValue constants free t us zs × Like begins t
+
+abbrev pub LikeTerm : Bool → Bool → Rel
+LikeTerm free begins us zs = (t : Tree) × DerivesTerm free t us zs × Like begins t
+
+abbrev pub LikeLevel : ℕ → Bool → Bool → Rel
+LikeLevel level free begins us zs = (t : Tree) × DerivesLevel level free t us zs × Like begins t
+
+abbrev pub LikeFront : Bool → Bool → Rel
+LikeFront free begins us zs = ((t : Tree) × DerivesPrefixed free t us zs × Like begins t) × Signs (APrefixed free) us zs
+
+abbrev pub LikeNegated : Bool → Bool → Rel
+LikeNegated free begins us zs = LikeLevel 9 free begins us zs × ((m : Token) → Is shape.Minus m → ALevel 9 free (m ∷ us) zs)
+
+abbrev pub LikeOperand : Bool → Bool → Token → Rel
+LikeOperand free begins last us zs = (p : Tree) × (ss : List (Suffix Tree)) × DerivesOperand free p ss last us zs × Like begins (posted p ss)
+
+abbrev pub LikePrimary : Bool → Bool → Token → Rel
+LikePrimary free begins last us zs = (p : Tree) × DerivesPrimary free p last us zs × Like begins p
+
+-- what is read has a tree that is a `begin` only where the one that is answered is
+abbrev pub Liking : List Token → Outcome Tree → (Bool → Rel) → Type 0
+Liking all o D = Goes o (λ t ys. Reach all ys (D (is_begin t))) (λ rest. Completes all rest (D true))
+
+pub liking : {all : List Token} {o : Outcome Tree} {D : Bool → Rel} {E : Rel} → Liking all o D → ((begins : Bool) (us zs : List Token) → D begins us zs → E us zs) → Plain all o E
+liking h k = goes-as h (λ t ys r. reach-as r (k (is_begin t))) (λ rest q. complete-as q (k true))
+
+pub like-any : (t : Tree) → Like true t
+like-any t e = absurd (cc)
 
 abbrev pub AnOperand : Bool → Token → Rel
 AnOperand free last us zs = (p : Tree) × (ss : List (Suffix Tree)) × DerivesOperand free p ss last us zs
@@ -166,7 +217,7 @@ body-stands at free zs c = record { whole = zs; clear = c; derives = (_, NoState
 -- ---- what nests
 
 pub record Viable (nested : Form → Bool → Parser Tree) : Type 0 where
-  pub body : (free : Bool) (xs : List Token) → Plain xs (nested form.Body free xs) (ABody Inside free)
+  pub body : (free : Bool) (xs : List Token) → Bodied Inside free xs (nested form.Body free xs)
   pub simple : (free : Bool) (xs : List Token) → Plain xs (nested form.Simple free xs) (ASimple false free)
   pub value : (free : Bool) (xs : List Token) → Plain xs (nested form.Value free xs) (AValue false free)
   pub term : (free : Bool) (xs : List Token) → Plain xs (nested form.Tern free xs) (ATerm free)

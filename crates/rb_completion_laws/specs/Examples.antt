@@ -27,3 +27,11 @@ NameRefused = RefusedAt (x ∷ token kind.OpenBrace ∷ token kind.Pipe ∷ x �
 -- `x (`: more is wanted
 abbrev pub EndRefused : Type 0
 EndRefused = RefusedAt (x ∷ token kind.OpenParen ∷ []) []
+
+-- `begin x rescue`: a separator is wanted before the `rescue`
+abbrev pub GuardRefused : Type 0
+GuardRefused = RefusedAt (token kind.Begin ∷ x ∷ []) (token kind.Rescue ∷ [])
+
+-- `begin end while x`: the `while` makes no loop of a `begin`
+abbrev pub LoopRefused : Type 0
+LoopRefused = RefusedAt (token kind.Begin ∷ token kind.End ∷ []) (token kind.While ∷ x ∷ [])

@@ -4,7 +4,7 @@
 //! before any tokens that `Clear` allows behind it.
 #![tactic(auto)]
 
-ghost use Rattle.rb_completion_laws.specs.Examples.{EndRefused, NameRefused, SignRefused};
+ghost use Rattle.rb_completion_laws.specs.Examples.{EndRefused, GuardRefused, LoopRefused, NameRefused, SignRefused};
 ghost use Rattle.rb_completion_laws.specs.Laws.{BadFrontsBegin, BodiesBegin, RefusalsAreEnds, RefusedFrontsBegin, StatementsBegin, TermsBegin};
 
 /// Where a program is refused, the tokens before the refused one begin a program; where tokens end too early, all of them do.
@@ -30,4 +30,6 @@ pub fn examples_begin()
     ensures sign { SignRefused }
     ensures name { NameRefused }
     ensures end { EndRefused }
+    ensures guard { GuardRefused }
+    ensures begin_loop { LoopRefused }
 {}

@@ -5,7 +5,7 @@ use Rattle.rb_tree.specs.declared.token.Token.{Token}
 use Rattle.rb_tree.specs.declared.syntax.Tree.{Tree}
 use Rattle.rb_rules.specs.Grammar.{Derives}
 use Rattle.rb_weight.specs.Weights.{Open, DeepAt, begun, weight_behind}
-use Rattle.rb_weight.specs.declared.TheConstants.{MOST}
+use Rattle.rb_weight.specs.Limits.{MOST}
 use Rattle.rb_weight.specs.declared.effect.Before.TheVariants as before
 use Rattle.rb_weight.specs.declared.effect.Level.TheVariants as level
 use Rattle.rb_weight_laws.specs.Roles.{Role, roles}
