@@ -1,6 +1,7 @@
--- `if`, `unless`, `while`, `until` and `case` are read alike.
+-- `if`, `unless`, `while`, `until`, `case` and `begin` are read alike.
 use Rattle.std.proofs.Common.{◌≡◌, ℕ, ◌-◌, Bool, true, false, ◌||◌, if◌then◌else◌, List, [], ◌∷◌, ◌++◌, Some, Ok, refl}
 use Rattle.rb_tree.specs.declared.syntax.Arm.{Arm}
+use Rattle.rb_tree.specs.declared.syntax.Rescue.{Rescue}
 use Rattle.rb_tree.specs.declared.syntax.Test.{Test}
 use Rattle.rb_tree.specs.declared.syntax.Test.TheVariants as test
 use Rattle.rb_tree.specs.declared.syntax.Tree.{Tree}
@@ -9,9 +10,9 @@ use Rattle.rb_tree.specs.declared.token.Token.{Token}
 use Rattle.rb_tree.specs.declared.token.Shape.TheVariants as shape
 use Rattle.rb_expr.specs.declared.form.Form.{Form}
 use Rattle.rb_expr.specs.declared.form.Form.TheVariants as form
-use Rattle.rb_expr.specs.Reading.{Outcome, Parser, ◌<$>◌, sees, after, skip_separators}
-use Rattle.rb_expr.specs.Branches.{after_then, then_word, do_word, otherwise, elsif_arm, elsif_arms_from, elsif_arms, arms_of, branch, repeated, subject, patterns_from, patterns, when_arm, when_arms_from, when_arms, choice}
-use Rattle.rb_prefix_laws.proofs.Steps.{Alike, likewise, bind, join, weaker, one, choose, sees-one, done, expecting, taking, stepping, skipping, Fits, less-fits, loop-in, loop-at}
+use Rattle.rb_expr.specs.Reading.{Outcome, Parser, ◌<$>◌, sees, after, skip_separators, named}
+use Rattle.rb_expr.specs.Branches.{after_then, then_word, do_word, rescues_all, rescue_variable, otherwise, elsif_arm, elsif_arms_from, elsif_arms, arms_of, branch, repeated, subject, patterns_from, patterns, when_arm, when_arms_from, when_arms, choice, raised, rescue_clause, rescues_from, rescues, otherwise_behind, ensure, guarded, guards}
+use Rattle.rb_prefix_laws.proofs.Steps.{Alike, likewise, bind, join, weaker, one, choose, Looks, sees-one, done, expecting, naming, taking, stepping, skipping, Fits, less-fits, loop-in, loop-at}
 use Rattle.rb_prefix_laws.proofs.Steps.Amount.{answer, any}
 use Rattle.rb_prefix_laws.proofs.Nested.{Nests}
 
@@ -34,6 +35,16 @@ then-alike k xs = choose (sees shape.Then) (sees-one shape.Then) (λ e. expectin
 do-word-alike : (k : ℕ) (xs : List Token) → Alike k (answer 0) xs (do_word xs) do_word
 unfolding do_word
 do-word-alike k xs = choose (sees shape.Do) (sees-one shape.Do) (λ e. expecting shape.Do xs) (λ e. expecting shape.Separator xs)
+
+rescues-all-one : Looks rescues_all
+unfolding rescues_all
+rescues-all-one = one rescues_all (λ t ts. refl)
+
+variable-alike : (k : ℕ) (xs : List Token) → Alike k (any 0) xs (rescue_variable xs) rescue_variable
+unfolding rescue_variable
+variable-alike k xs = choose (sees shape.Arrow) (sees-one shape.Arrow)
+    (λ e. weaker (stepping xs (Some <$> named shape.Identifier) (Some <$> named shape.Identifier) shape.Arrow e (weaker (bind (naming shape.Identifier (after xs)) (λ name r. done _)))))
+    (λ e. done _)
 
 module _ (nested other : Form → Bool → Parser Tree) (turns more : ℕ) (ih : Nests nested other turns more) (free : Bool) where
   otherwise-alike : (k : ℕ) → Fits turns more k → (xs : List Token) → Alike k (any 0) xs (otherwise nested turns free xs) (otherwise other more free)
@@ -92,3 +103,39 @@ module _ (nested other : Form → Bool → Parser Tree) (turns more : ℕ) (ih :
   pub choice-alike : (k : ℕ) → Fits turns more k → (xs : List Token) → Alike k (answer 0) xs (choice nested turns free xs) (choice other more free)
   unfolding choice
   choice-alike k fit xs = let less = less-fits fit in bind (taking xs) (λ mark r. bind (subject-alike k fit r) (λ given r. bind (skipping r (when_arms nested turns free) (when_arms other more free) (when-arms-alike (k - 1) less (skip_separators r))) (λ arms r. bind (otherwise-alike (k - 1) less r) (λ rest r. weaker (bind (expecting shape.End r) (λ closing r. done _))))))
+
+  -- ---- guards
+
+  -- behind `rescue`
+  raised-alike : (k : ℕ) → Fits turns more k → (xs : List Token) → Alike (k - 1) (any 0) xs (raised nested turns free xs) (raised other more free)
+  unfolding raised
+  raised-alike k fit xs = choose rescues_all rescues-all-one (λ e. done _) (λ e. patterns-alike k fit xs)
+
+  clause-alike : (k : ℕ) → Fits turns more k → (xs : List Token) → Alike k (answer 0) xs (rescue_clause nested turns free xs) (rescue_clause other more free)
+  unfolding rescue_clause
+  clause-alike k fit xs = bind (expecting shape.Rescue xs) (λ mark r. bind (raised-alike k fit r) (λ found r. bind (variable-alike (k - 1) r) (λ variable r. join (weaker (then-alike (k - 1) r)) (λ word r. bind ((ih k fit).reads form.Body free r) (λ body r. done _)))))
+
+  rescues-alike : (k : ℕ) → Fits turns more k → (xs : List Token) → Alike k (any 0) xs (rescues nested turns free xs) (rescues other more free)
+  unfolding rescues rescues_from
+  rescues-alike k fit xs = loop-at {S = List (Rescue Tree)} turns more (λ n s. rescues_from nested turns free n s) (λ n s. rescues_from other more free n s)
+      (λ k n m fit again s xs. choose (sees shape.Rescue) (sees-one shape.Rescue) (λ e. weaker (bind (clause-alike k fit xs) (λ clause r. again (s ++ clause ∷ []) r))) (λ e. done _))
+      k fit [] xs
+
+  behind-rescues-alike : (k : ℕ) → Fits turns more k → (clauses : List (Rescue Tree)) (xs : List Token) → Alike k (any 0) xs (otherwise_behind nested turns free clauses xs) (otherwise_behind other more free clauses)
+  unfolding otherwise_behind
+  behind-rescues-alike k fit [] xs = done _
+  behind-rescues-alike k fit (clause ∷ clauses) xs = otherwise-alike k fit xs
+
+  ensure-alike : (k : ℕ) → Fits turns more k → (xs : List Token) → Alike k (any 0) xs (ensure nested turns free xs) (ensure other more free)
+  unfolding ensure
+  ensure-alike k fit xs = choose (sees shape.Ensure) (sees-one shape.Ensure)
+      (λ e. weaker (stepping xs (Some <$> nested form.Body free) (Some <$> other form.Body free) shape.Ensure e (bind ((ih k fit).reads form.Body free (after xs)) (λ b r. done _))))
+      (λ e. done _)
+
+  pub guarded-alike : (k : ℕ) → Fits turns more k → (xs : List Token) → Alike (k - 1) (any 0) xs (guarded nested turns free xs) (guarded other more free)
+  unfolding guarded
+  guarded-alike k fit xs = let less = less-fits fit in bind ((ih k fit).reads form.Body free xs) (λ body r. bind (rescues-alike (k - 1) less r) (λ clauses r. bind (behind-rescues-alike (k - 1) less clauses r) (λ rest r. bind (ensure-alike (k - 1) less r) (λ last r. done _))))
+
+  pub guards-alike : (k : ℕ) → Fits turns more k → (xs : List Token) → Alike k (answer 0) xs (guards nested turns free xs) (guards other more free)
+  unfolding guards
+  guards-alike k fit xs = bind (taking xs) (λ mark r. bind (guarded-alike k fit r) (λ found r. weaker (bind (expecting shape.End r) (λ closing r. done _))))

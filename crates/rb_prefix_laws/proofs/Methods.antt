@@ -11,12 +11,12 @@ use Rattle.rb_tree.specs.declared.token.TokenKind.TheVariants as kind
 use Rattle.rb_tree.specs.declared.token.Shape.TheVariants as shape
 use Rattle.rb_expr.specs.Reading.{Outcome, Parser, ◌>>=◌, pure, sees, after, expect}
 use Rattle.rb_expr.specs.Grammar.{parsed}
-use Rattle.rb_expr.specs.Rules.{longest_body, body}
+use Rattle.rb_expr.specs.Rules.{guarded}
 use Rattle.rb_decl.specs.Methods.{visibility_of, visibility, operator_text, plain_name, method_name, own, method_head, defined, start_of, method}
 use Rattle.rb_prefix_laws.proofs.Steps.{Alike, Same, first, same-first, bind, weaker, lower, answering, one, choose, looking, looking-far, sees-one, done, like, empty, taken-in, refused-at, expecting, stepping, Fits, less-fits}
 use Rattle.rb_prefix_laws.proofs.Steps.Amount.{answer, any}
 use Rattle.rb_prefix_laws.proofs.Nested.{grip}
-use Rattle.rb_prefix_laws.proofs.Statements.{body-alike}
+use Rattle.rb_prefix_laws.proofs.Branches.{guarded-alike}
 use Rattle.rb_prefix_laws.proofs.Forms.{nests}
 use Rattle.rb_prefix_laws.proofs.Parameters.{parameters-alike}
 
@@ -83,13 +83,13 @@ module _ (turns more : ℕ) where
   unfolding method_head
   head-alike k fit v start xs = bind (expecting shape.Def xs) (λ word r. bind (own-alike (k - 1) r) (λ mine r. weaker (bind (name-alike (k - 1) r) (λ name r. bind (parameters-alike turns more (k - 1 - 1) (less-fits (less-fits fit)) r) (λ found r. done _)))))
 
-  rest-alike : (k : ℕ) → Fits turns more k → (xs : List Token) → Alike k (any 0) xs (body turns xs) (body more)
-  unfolding body longest_body
-  rest-alike k fit xs = body-alike (parsed turns) (parsed more) turns more (nests turns more) true k fit false xs
+  rest-alike : (k : ℕ) → Fits turns more k → (xs : List Token) → Alike (k - 1) (any 0) xs (guarded turns xs) (guarded more)
+  unfolding guarded
+  rest-alike k fit xs = guarded-alike (parsed turns) (parsed more) turns more (nests turns more) true k fit xs
 
   defined-alike : (k : ℕ) → Fits turns more k → (v : Option Visibility) (start : ℕ) (xs : List Token) → Alike k (answer 0) xs (defined turns v start xs) (defined more v start)
   unfolding defined
-  defined-alike k fit v start xs = bind (head-alike k fit v start xs) (λ head r. bind (rest-alike (k - 1) (less-fits fit) r) (λ b r. weaker (bind (expecting shape.End r) (λ closing r. done _))))
+  defined-alike k fit v start xs = bind (head-alike k fit v start xs) (λ head r. bind (rest-alike k fit r) (λ found r. weaker (bind (expecting shape.End r) (λ closing r. done _))))
 
   -- with what its front says
   abbrev By : ℕ → Option Visibility → Parser Tree

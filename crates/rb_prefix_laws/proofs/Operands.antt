@@ -24,7 +24,7 @@ use Rattle.rb_prefix_laws.proofs.Steps.Amount.{answer, any}
 use Rattle.rb_prefix_laws.proofs.Nested.{grip_by, grip, Nests}
 use Rattle.rb_prefix_laws.proofs.Lists.{element-alike}
 use Rattle.rb_prefix_laws.proofs.Calls.{optional-alike, optional-block-alike}
-use Rattle.rb_prefix_laws.proofs.Branches.{branch-alike, repeated-alike, choice-alike}
+use Rattle.rb_prefix_laws.proofs.Branches.{branch-alike, repeated-alike, choice-alike, guards-alike}
 
 -- ---- literals and names
 
@@ -194,6 +194,7 @@ module _ (nested other : Form → Bool → Parser Tree) (turns more : ℕ) (ih :
   primary-by-alike k fit shape.While t ts is = repeated-alike nested other turns more ih free k fit test.Positive (t ∷ ts)
   primary-by-alike k fit shape.Until t ts is = repeated-alike nested other turns more ih free k fit test.Negative (t ∷ ts)
   primary-by-alike k fit shape.Case t ts is = choice-alike nested other turns more ih free k fit (t ∷ ts)
+  primary-by-alike k fit shape.Begin t ts is = guards-alike nested other turns more ih free k fit (t ∷ ts)
   primary-by-alike k fit s t ts is = refusing-here
 
   pub primary-alike : (k : ℕ) → Fits turns more k → (xs : List Token) → Alike k (answer (grip xs)) xs (primary nested turns free xs) (primary other more free)

@@ -1,9 +1,9 @@
 -- The parameters of a method are read alike.
 use Rattle.std.proofs.Common.{◌≡◌, ℕ, ◌-◌, ◌≤◌, Bool, true, false, not, ◌||◌, if◌then◌else◌, List, [], ◌∷◌, ◌++◌, Option, Some, None, Ok, Err, refl, arith}
+use Rattle.srb_terms.specs.declared.param_kind.ParamKind.TheVariants as param_kind
 use Rattle.srb_terms.specs.declared.span.Span.{Span}
 use Rattle.rb_tree.specs.declared.syntax.Tree.{Tree}
 use Rattle.rb_tree.specs.declared.syntax.Parameter.{Parameter}
-use Rattle.rb_tree.specs.declared.syntax.Parameter.TheVariants as parameters
 use Rattle.rb_tree.specs.declared.token.Token.{Token}
 use Rattle.rb_tree.specs.declared.token.TokenKind.{TokenKind}
 use Rattle.rb_tree.specs.declared.token.TokenKind.TheVariants as kind
@@ -11,7 +11,7 @@ use Rattle.rb_tree.specs.declared.token.Shape.TheVariants as shape
 use Rattle.rb_expr.specs.Reading.{Outcome, Parser, ◌>>=◌, pure, sees, after, skip_separators, expect}
 use Rattle.rb_expr.specs.Rules.{tern}
 use Rattle.rb_expr.specs.Grammar.{parsed}
-use Rattle.rb_decl.specs.Parameters.{name_of, stage_behind, fresh, noted, is_first, is_last, plain, has_no_default, keyword, block, parameter, behind_comma, is_over, row_from, row, bracketed, bare, parameters_of}
+use Rattle.rb_decl.specs.Parameters.{parameter_of, stage_behind, fresh, noted, is_first, is_last, plain, has_no_default, keyword, block, parameter, behind_comma, is_over, row_from, row, bracketed, bare, parameters_of}
 use Rattle.rb_decl.specs.declared.parameter.Stage.{Stage}
 use Rattle.rb_decl.specs.declared.parameter.Stage.TheVariants as stages
 use Rattle.rb_prefix_laws.proofs.Steps.{Alike, bind, weaker, lower, answering, empty, one, choose, sees-one, done, refusing, like, taken-in, refused-at, expecting, stepping, skipping, narrow, Fits, less-fits, loop-at}
@@ -36,7 +36,7 @@ by-name t ts None f g q h more = refused-at t ts q h
 
 block-at : (k : ℕ) (names : List (List ℕ)) (c : TokenKind) (s : Span) (ts : List Token) → Alike k (answer 0) (record { kind = c; span = s } ∷ ts) (block names (record { kind = c; span = s } ∷ ts)) (block names)
 unfolding block
-block-at k names (kind.Identifier w) s ts = by-name (record { kind = kind.Identifier w; span = s }) ts (fresh names w) (λ name ys. Ok (parameters.Block name s, ys)) (λ name ys. Ok (parameters.Block name s, ys)) (block names) (λ ys. refl) (λ name. done _)
+block-at k names (kind.Identifier w) s ts = by-name (record { kind = kind.Identifier w; span = s }) ts (fresh names w) (λ name ys. Ok (parameter_of param_kind.Block name s None, ys)) (λ name ys. Ok (parameter_of param_kind.Block name s None, ys)) (block names) (λ ys. refl) (λ name. done _)
 block-at k names c s ts = refused-at (record { kind = c; span = s }) ts (block names) (λ ys. refl)
 
 block-alike : (k : ℕ) (names : List (List ℕ)) (xs : List Token) → Alike k (answer 0) xs (block names xs) (block names)
@@ -66,8 +66,8 @@ module _ (turns more : ℕ) where
   plain-alike : (k : ℕ) → Fits turns more k → (stage : Stage) (words : List ℕ) (span : Span) (xs : List Token) → Alike k (any 0) xs (plain turns stage words span xs) (plain more stage words span)
   unfolding plain
   plain-alike k fit stage words span xs = choose (sees shape.Assign) (sees-one shape.Assign)
-      (λ e. weaker (stepping xs (tern turns >>= (λ default. pure (parameters.Optional words span default))) (tern more >>= (λ default. pure (parameters.Optional words span default))) shape.Assign e (bind (default-alike (k - 1) (less-fits fit) (after xs)) (λ default r. done _))))
-      (λ e. either (is_first stage) (parameters.Required words span))
+      (λ e. weaker (stepping xs (tern turns >>= (λ default. pure (parameter_of param_kind.Optional words span (Some default)))) (tern more >>= (λ default. pure (parameter_of param_kind.Optional words span (Some default)))) shape.Assign e (bind (default-alike (k - 1) (less-fits fit) (after xs)) (λ default r. done _))))
+      (λ e. either (is_first stage) (parameter_of param_kind.Required words span None))
 
   keyword-alike : (k : ℕ) → Fits turns more k → (words : List ℕ) (span : Span) (xs : List Token) → Alike k (any 0) xs (keyword turns words span xs) (keyword more words span)
   unfolding keyword
@@ -89,10 +89,10 @@ module _ (turns more : ℕ) where
   row-alike : (k : ℕ) → Fits turns more k → (in_brackets : Bool) (xs : List Token) → Alike k (any 0) xs (row turns in_brackets xs) (row more in_brackets)
   unfolding row row_from
   row-alike k fit in_brackets xs = loop-at {S = Stage × List (List ℕ) × List (Parameter Tree)} turns more (λ n s. row_from turns in_brackets n s.0 s.1 s.2) (λ n s. row_from more in_brackets n s.0 s.1 s.2)
-      (λ k n m fit again s xs. weaker (bind (parameter-alike k fit s.0 s.1 xs) (λ x r. choose (is_over (stage_behind x)) (one (is_over (stage_behind x)) (λ t ts. refl))
+      (λ k n m fit again s xs. weaker (bind (parameter-alike k fit s.0 s.1 xs) (λ x r. choose (is_over (stage_behind x.kind)) (one (is_over (stage_behind x.kind)) (λ t ts. refl))
       (λ e. done _)
-      (λ e. weaker (comma-behind (k - 1) in_brackets (row_from turns in_brackets n (stage_behind x) (noted s.1 (name_of x)) (s.2 ++ x ∷ [])) (row_from more in_brackets m (stage_behind x) (noted s.1 (name_of x)) (s.2 ++ x ∷ [])) r (over (stage_behind x) r e)
-      (λ zs. narrow (once (k - 1)) (again (stage_behind x, noted s.1 (name_of x), s.2 ++ x ∷ []) zs)))))))
+      (λ e. weaker (comma-behind (k - 1) in_brackets (row_from turns in_brackets n (stage_behind x.kind) (noted s.1 x.name) (s.2 ++ x ∷ [])) (row_from more in_brackets m (stage_behind x.kind) (noted s.1 x.name) (s.2 ++ x ∷ [])) r (over (stage_behind x.kind) r e)
+      (λ zs. narrow (once (k - 1)) (again (stage_behind x.kind, noted s.1 x.name, s.2 ++ x ∷ []) zs)))))))
       k fit (stages.Required, [], []) xs
 
   bracketed-alike : (k : ℕ) → Fits turns more k → (xs : List Token) → Alike k (any 0) xs (bracketed turns xs) (bracketed more)

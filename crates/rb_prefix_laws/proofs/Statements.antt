@@ -1,5 +1,6 @@
 -- Statements and bodies are read alike.
 use Rattle.std.proofs.Common.{◌≡◌, ℕ, ◌-◌, ◌≤◌, Bool, ◌||◌, List, [], ◌∷◌, ◌++◌, Option, Some, None, is_some, refl, ap, ◌∙◌, arith}
+use Rattle.srb_terms.specs.declared.span.Span.{Span}
 use Rattle.rb_tree.specs.Tokens.{shape_of}
 use Rattle.rb_tree.specs.Trees.{span_of}
 use Rattle.rb_tree.specs.declared.syntax.Binary.{Binary}
@@ -17,9 +18,9 @@ use Rattle.rb_expr.specs.declared.form.Form.{Form}
 use Rattle.rb_expr.specs.declared.form.Form.TheVariants as form
 use Rattle.rb_expr.specs.Operators.{tern}
 use Rattle.rb_expr.specs.Reading.{Parser, peek, sees, skip_separators}
-use Rattle.rb_expr.specs.Shapes.{begins_statement, has_value, is_negation, prefix_of, has_prefix, jump_of, modifier_of}
-use Rattle.rb_expr.specs.Statements.{ending_of, follower_of, body_start, assigned, operator_assigned, command, followed_by, followed, from_operand, value, jump_value, jump, simple_by, simple, modified, modifiers_by, modifiers_from, modifiers, statement, body_from, statements, body}
-use Rattle.rb_prefix_laws.proofs.Steps.{Alike, Looks, Same, bind, weaker, one, looking, choose, choosing, sees-one, done, taking, expecting, stepping-over, skipping, narrow, Fits, less-fits, loop-at}
+use Rattle.rb_expr.specs.Shapes.{begins_statement, has_value, is_negation, prefix_of, has_prefix, jump_of}
+use Rattle.rb_expr.specs.Statements.{ending_of, follower_of, modifier_behind, body_start, ended, assigned, operator_assigned, command, followed_by, followed, from_operand, value, jump_value, jump, simple_by, simple, modified, modifiers_by, modifiers_from, modifiers, statement, body_from, statements, body}
+use Rattle.rb_prefix_laws.proofs.Steps.{Alike, Looks, Same, bind, weaker, one, looking, choose, choosing, sees-one, done, refusing, taking, expecting, stepping-over, skipping, narrow, Fits, less-fits, loop-at}
 use Rattle.rb_prefix_laws.proofs.Steps.Amount.{answer, any}
 use Rattle.rb_prefix_laws.proofs.Nested.{grip_by, grip, Nests}
 use Rattle.rb_prefix_laws.proofs.Calls.{bare-alike, command-block-alike}
@@ -44,6 +45,10 @@ follower-one constants end = one (λ ys. follower_of constants end (peek ys)) (�
 body-start-one : Looks body_start
 unfolding begins_statement
 body-start-one = one body_start (λ t ts. refl)
+
+ended-alike : {k : ℕ} (found : List Tree) (span : Span) (xs : List Token) → Alike k (any 0) xs (ended found span xs) (ended found span)
+unfolding ended
+ended-alike found span xs = choose (sees shape.Rescue) (sees-one shape.Rescue) (λ e. refusing) (λ e. done _)
 
 once : (k : ℕ) → k - 1 ≤ k
 once k = omega arith
@@ -115,14 +120,14 @@ module _ (nested other : Form → Bool → Parser Tree) (turns more : ℕ) (ih :
   modifiers-by-alike k fit again again2 h inner None xs = done _
   modifiers-by-alike k fit again again2 h inner (Some word) xs = weaker (bind (modified-alike k fit word inner xs) (λ longer r. h longer r))
 
-  modifier-one : Looks (λ ys. modifier_of (peek ys))
-  modifier-one = one (λ ys. modifier_of (peek ys)) (λ t ts. refl)
+  modifier-one : (inner : Tree) → Looks (λ ys. modifier_behind inner (peek ys))
+  modifier-one inner = one (λ ys. modifier_behind inner (peek ys)) (λ t ts. refl)
 
   modifiers-alike : (k : ℕ) → Fits turns more k → (inner : Tree) (xs : List Token) → Alike k (any 0) xs (modifiers nested turns free inner xs) (modifiers other more free inner)
   unfolding modifiers modifiers_from
   modifiers-alike k fit inner xs = loop-at {S = Tree} turns more (λ n s. modifiers_from nested turns free n s) (λ n s. modifiers_from other more free n s)
-      (λ k n m fit again s xs. looking (λ ys. modifier_of (peek ys)) (modifiers_by other more free (modifiers_from other more free m) s) modifier-one
-      (modifiers-by-alike k fit (modifiers_from nested turns free n) (modifiers_from other more free m) again s (modifier_of (peek xs)) xs))
+      (λ k n m fit again s xs. looking (λ ys. modifier_behind s (peek ys)) (modifiers_by other more free (modifiers_from other more free m) s) (modifier-one s)
+      (modifiers-by-alike k fit (modifiers_from nested turns free n) (modifiers_from other more free m) again s (modifier_behind s (peek xs)) xs))
       k fit inner xs
 
   pub statement-alike : (k : ℕ) → Fits turns more k → (constants : Bool) (xs : List Token) → Alike k (answer (grip xs)) xs (statement nested turns free constants xs) (statement other more free constants)
@@ -138,7 +143,7 @@ module _ (nested other : Form → Bool → Parser Tree) (turns more : ℕ) (ih :
       (λ e. weaker (bind (statement-alike k fit constants xs) (λ next r. choose (sees shape.Separator) (sees-one shape.Separator)
       (λ e. weaker (stepping-over r (body_from nested turns free constants start (span_of next).end n (s.1 ++ next ∷ [])) (body_from other more free constants start (span_of next).end m (s.1 ++ next ∷ [])) e
       (narrow (once (k - 1)) (again ((span_of next).end, s.1 ++ next ∷ []) (skip_separators r)))))
-      (λ e. done _))))
+      (λ e. ended-alike (s.1 ++ next ∷ []) (record { start = start; end = (span_of next).end }) r))))
       (λ e. done _))
       k fit (0, []) xs
 

@@ -20,6 +20,14 @@ TWICE =
     token kind.Def 0 3 ∷ token (kind.Identifier (codes "f")) 4 5 ∷ token kind.OpenParen 5 6 ∷ token (kind.Identifier (codes "a")) 6 7 ∷ token kind.Comma 7 8
     ∷ token (kind.Identifier (codes "a")) 9 10 ∷ []
 
+-- `begin x rescue`: no separator before the `rescue`
+abbrev pub GUARDED : List Token
+GUARDED = token kind.Begin 0 5 ∷ token (kind.Identifier (codes "x")) 6 7 ∷ token kind.Rescue 8 14 ∷ []
+
+-- `begin end while`: a loop of a `begin` with its `end` alone
+abbrev pub LOOPED : List Token
+LOOPED = token kind.Begin 0 5 ∷ token kind.End 6 9 ∷ token kind.While 10 15 ∷ []
+
 abbrev pub NoneIsClosed : Type 0
 NoneIsClosed = ¬ Begins CLOSED
 
@@ -28,6 +36,12 @@ NoneIsNameless = ¬ Begins NAMELESS
 
 abbrev pub NoneNamesTwice : Type 0
 NoneNamesTwice = ¬ Begins TWICE
+
+abbrev pub NoneRescuesSo : Type 0
+NoneRescuesSo = ¬ Begins GUARDED
+
+abbrev pub NoneLoopsSo : Type 0
+NoneLoopsSo = ¬ Begins LOOPED
 
 -- ---- where the depth is not enough
 

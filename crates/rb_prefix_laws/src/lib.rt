@@ -4,7 +4,7 @@
 //! with the tokens up to and with a refused one. That those before it begin one is no law of this crate.
 #![tactic(auto)]
 
-ghost use Rattle.rb_prefix_laws.specs.Examples.{NoneIsClosed, NoneIsNameless, NoneNamesTwice, ShallowLooksFurther};
+ghost use Rattle.rb_prefix_laws.specs.Examples.{NoneIsClosed, NoneIsNameless, NoneLoopsSo, NoneNamesTwice, NoneRescuesSo, ShallowLooksFurther};
 ghost use Rattle.rb_prefix_laws.specs.Laws.{BadPlaces, FormsAreRefusedAlike, FormsEndAlike, FormsNeedNoMoreDepth, NoProgramBeginsSo, ProgramsNeedNoMoreDepth, RefusalsAreEnds, RefusalsLookNoFurther};
 
 /// A form is refused at the same token, or read to the same end, whatever stands behind that token. A depth that is enough for the
@@ -37,5 +37,7 @@ pub fn examples_are_refused()
     ensures closed { NoneIsClosed }
     ensures nameless { NoneIsNameless }
     ensures twice { NoneNamesTwice }
+    ensures guarded { NoneRescuesSo }
+    ensures looped { NoneLoopsSo }
     ensures shallow { ShallowLooksFurther }
 {}

@@ -1,4 +1,4 @@
-use Rattle.rb_prefix_laws.proofs.Examples.{none-is-closed, none-is-nameless, none-names-twice, shallow-looks-further}
+use Rattle.rb_prefix_laws.proofs.Examples.{none-is-closed, none-is-nameless, none-names-twice, none-rescues-so, none-loops-so, shallow-looks-further}
 use Rattle.rb_prefix_laws.proofs.examples_are_refused.Goals as goal
 
 pub returns-clause-closed : goal.returns-clause-closed
@@ -9,6 +9,12 @@ returns-clause-nameless c = none-is-nameless
 
 pub returns-clause-twice : goal.returns-clause-twice
 returns-clause-twice c = none-names-twice
+
+pub returns-clause-guarded : goal.returns-clause-guarded
+returns-clause-guarded c = none-rescues-so
+
+pub returns-clause-looped : goal.returns-clause-looped
+returns-clause-looped c = none-loops-so
 
 pub returns-clause-shallow : goal.returns-clause-shallow
 returns-clause-shallow c = shallow-looks-further
