@@ -4,7 +4,7 @@
 //! is said of tokens that begin a program and are none.
 #![tactic(auto)]
 
-ghost use Rattle.rb_refusal_laws.specs.Examples.{BracketIsBad, NameIsAwaited};
+ghost use Rattle.rb_refusal_laws.specs.Examples.{BracketIsBad, LoopIsBad, NameIsAwaited};
 ghost use Rattle.rb_refusal_laws.specs.Laws.{BadPlacesAreExact, BadTokensAreRefused, DeepPlacesAreExact, DeepTokensAreRefused, EarlyEndsAreRefused, NoEndIsBad, NoneBadBeforeDeep, OneFront, OnePlace, SomeAreRefusedBefore};
 
 /// Where tokens are refused for what they are, it is at the bad token, or at their end if they end too early.
@@ -39,8 +39,9 @@ pub fn deep_tokens_are_refused()
     ensures { DeepTokensAreRefused }
 {}
 
-/// A token that is bad, and tokens that end too early.
+/// Tokens that are bad, and some that end too early.
 pub fn examples_are_refused()
     ensures bracket { BracketIsBad }
     ensures name { NameIsAwaited }
+    ensures looped { LoopIsBad }
 {}
