@@ -5,9 +5,7 @@ use Rattle.rb_tree.specs.declared.token.Token.{Token}
 use Rattle.rb_expr.specs.Grammar.{parsed}
 use Rattle.rb_expr.specs.Reading.{Outcome}
 use Rattle.rb_expr.specs.declared.form.Form.{Form}
-use Rattle.rb_rules.specs.Grammar.{Derives}
-use Rattle.rb_grammar_laws.proofs.Answers.{programs-answer}
-use Rattle.rb_prefix_laws.specs.Laws.{FormsAreRefusedAlike, FormsEndAlike, FormsNeedNoMoreDepth, RefusalsLookNoFurther, ProgramsNeedNoMoreDepth, RefusalsAreEnds, NoProgramBeginsSo}
+use Rattle.rb_prefix_laws.specs.Laws.{FormsAreRefusedAlike, FormsEndAlike, FormsNeedNoMoreDepth, RefusalsLookNoFurther, ProgramsNeedNoMoreDepth, RefusalsAreEnds}
 use Rattle.rb_prefix_laws.proofs.Steps.{Alike, rest_of, instead, fits-turns}
 use Rattle.rb_prefix_laws.proofs.Steps.Amount.{any}
 use Rattle.rb_prefix_laws.proofs.Forms.{nests}
@@ -54,13 +52,6 @@ refusals-look-no-further depth other before bad behind others a b e =
     let deep' : length (before ++ bad ∷ others) < depth + other = omega arith in
     same-program other (depth + other) (before ++ bad ∷ others) b deep'
     ∙ refused-alike (depth + other) before bad behind others deep deep' (same-program (depth + other) depth (before ++ bad ∷ behind) deep a ∙ e)
-
-pub no-program-begins-so : NoProgramBeginsSo
-no-program-begins-so before bad behind e (more, t, derives) =
-    let d : Derives (before ++ bad ∷ more) t = subst (λ us. Derives us t) (append_assoc before (bad ∷ []) more) derives in
-    let ok = programs-answer (before ++ bad ∷ more) t d in
-    let no' = refusals-look-no-further (length (before ++ bad ∷ behind) + 2) (length (before ++ bad ∷ more) + 2) before bad behind more (omega arith) (omega arith) e in
-    absurd (cc)
 
 pub refusals-are-ends : RefusalsAreEnds
 refusals-are-ends depth tokens rest less e = refusal-ends depth tokens rest less e

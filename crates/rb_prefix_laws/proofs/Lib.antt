@@ -14,5 +14,4 @@ pub mod Methods
 pub mod Items
 pub mod Programs
 pub mod Laws
-pub mod Places
 pub mod Examples

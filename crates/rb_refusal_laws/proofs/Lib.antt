@@ -2,3 +2,6 @@ pub mod Fronts
 pub mod Places
 pub mod Refused
 pub mod Examples
+pub mod Begun
+pub mod BadPlaces
+pub mod NoneBegins

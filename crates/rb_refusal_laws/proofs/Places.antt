@@ -12,7 +12,7 @@ use Rattle.rb_rules.specs.Grammar.{Derives, Begins, BadAt, EndsEarly}
 use Rattle.rb_grammar.proofs.Programs.{program-derives}
 use Rattle.rb_grammar_laws.proofs.Answers.{programs-answer}
 use Rattle.rb_completion_laws.proofs.Laws.{fronts-begin, refusals-are-ends}
-use Rattle.rb_prefix_laws.proofs.Laws.{no-program-begins-so}
+use Rattle.rb_refusal_laws.proofs.Begun.{no-program-begins-so}
 use Rattle.rb_refusal_laws.specs.Laws.{BadPlacesAreExact, IsDeepAt, DeepPlacesAreExact}
 
 -- ---- what a refusal tells

@@ -1,2 +1,4 @@
 pub mod Laws
 pub mod Examples
+pub mod BadPlaces
+pub mod NoneBegins

@@ -1,11 +1,23 @@
 //! Laws on the parser's refusals: the refused place is exactly the one that the grammar tells.
 //!
-//! `BadAt` of `rb_grammar` is the place of a token with which no program goes on, though the tokens before it begin one. `EndsEarly`
+//! `BadAt` of `rb_rules` is the place of a token with which no program goes on, though the tokens before it begin one. `EndsEarly`
 //! is said of tokens that begin a program and are none.
 #![tactic(auto)]
 
+ghost use Rattle.rb_refusal_laws.specs.BadPlaces.{BadPlaces, NoProgramBeginsSo};
 ghost use Rattle.rb_refusal_laws.specs.Examples.{BracketIsBad, LoopIsBad, NameIsAwaited};
 ghost use Rattle.rb_refusal_laws.specs.Laws.{BadPlacesAreExact, BadTokensAreRefused, DeepPlacesAreExact, DeepTokensAreRefused, EarlyEndsAreRefused, NoEndIsBad, NoneBadBeforeDeep, OneFront, OnePlace, SomeAreRefusedBefore};
+ghost use Rattle.rb_refusal_laws.specs.NoneBegins.{NoneIsClosed, NoneIsNameless, NoneLoopsSo, NoneNamesTwice, NoneRescuesSo};
+
+/// No program begins with the tokens up to and with a refused one.
+pub fn no_program_begins_so()
+    ensures { NoProgramBeginsSo }
+{}
+
+/// The place of a refusal is that of a token with which no program goes on, or the end of tokens that are no program.
+pub fn bad_places()
+    ensures { BadPlaces }
+{}
 
 /// Where tokens are refused for what they are, it is at the bad token, or at their end if they end too early.
 pub fn bad_places_are_exact()
@@ -44,4 +56,13 @@ pub fn examples_are_refused()
     ensures bracket { BracketIsBad }
     ensures name { NameIsAwaited }
     ensures looped { LoopIsBad }
+{}
+
+/// A few fronts with which no program goes on.
+pub fn examples_begin_no_program()
+    ensures closed { NoneIsClosed }
+    ensures nameless { NoneIsNameless }
+    ensures twice { NoneNamesTwice }
+    ensures guarded { NoneRescuesSo }
+    ensures looped { NoneLoopsSo }
 {}

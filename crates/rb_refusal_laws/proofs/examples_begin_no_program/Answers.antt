@@ -1,5 +1,5 @@
-use Rattle.rb_prefix_laws.proofs.Examples.{none-is-closed, none-is-nameless, none-names-twice, none-rescues-so, none-loops-so, shallow-looks-further}
-use Rattle.rb_prefix_laws.proofs.examples_are_refused.Goals as goal
+use Rattle.rb_refusal_laws.proofs.NoneBegins.{none-is-closed, none-is-nameless, none-names-twice, none-rescues-so, none-loops-so}
+use Rattle.rb_refusal_laws.proofs.examples_begin_no_program.Goals as goal
 
 pub returns-clause-closed : goal.returns-clause-closed
 returns-clause-closed c = none-is-closed
@@ -15,6 +15,3 @@ returns-clause-guarded c = none-rescues-so
 
 pub returns-clause-looped : goal.returns-clause-looped
 returns-clause-looped c = none-loops-so
-
-pub returns-clause-shallow : goal.returns-clause-shallow
-returns-clause-shallow c = shallow-looks-further

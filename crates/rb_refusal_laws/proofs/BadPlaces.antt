@@ -8,9 +8,9 @@ use Rattle.rb_expr.specs.declared.ParseEnd.TheVariants.{Bad}
 use Rattle.rb_decl.specs.Programs.{program, whole, whole_of, cut, cut_of, parsed_by, token_start, end_of}
 use Rattle.rb_rules.specs.Grammar.{Derives}
 use Rattle.rb_grammar_laws.proofs.Answers.{programs-answer}
-use Rattle.rb_prefix_laws.specs.Laws.{IsRefusedAt, EndsShort, BadPlaces}
+use Rattle.rb_refusal_laws.specs.BadPlaces.{IsRefusedAt, EndsShort, BadPlaces}
 use Rattle.rb_prefix_laws.proofs.Programs.{refusal-ends}
-use Rattle.rb_prefix_laws.proofs.Laws.{no-program-begins-so}
+use Rattle.rb_refusal_laws.proofs.Begun.{no-program-begins-so}
 
 -- a token is refused among the first of these
 refused-token : (tokens all rest : List Token) (t : Token) (ts : List Token) → all ≡ tokens ++ rest → program (length tokens + 2) tokens ≡ Err (t ∷ ts) → IsRefusedAt all t.span.start

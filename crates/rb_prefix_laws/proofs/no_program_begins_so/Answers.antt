@@ -1,5 +1,0 @@
-use Rattle.rb_prefix_laws.proofs.Laws.{no-program-begins-so}
-use Rattle.rb_prefix_laws.proofs.no_program_begins_so.Goals as goal
-
-pub returns : goal.returns
-returns c = no-program-begins-so
