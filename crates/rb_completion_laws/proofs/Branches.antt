@@ -38,7 +38,7 @@ use Rattle.rb_rules.specs.Grammar.DerivesPrimary.{Branches, Loops, Guards, Cases
 use Rattle.rb_grammar.proofs.Steps.{same, identifier}
 use Rattle.rb_completion_laws.proofs.Steps.{Rel, Reach, Completes, Stands, Seq, stands-as, seq-stands, reach-as, reach-more, reach-one, complete-as, complete-then, complete-behind, complete-reach, Goes, bind, goes-as, gap-stands, Plain, plainly, seq, done, refusing, choosing, One, one-stands, expecting, naming, taken, parted, answering, if-seen, Perhaps, perhaps-stands, nothing, something, Closing, stands-end, seq-closing, closingly, headed-closing, last-stands, closing, before-last}
 use Rattle.rb_completion_laws.proofs.Begins.{noded}
-use Rattle.rb_completion_laws.proofs.Viable.{Viable, ABody, AParted, Bodied, bodied, ASimple, ATerm, APrimary, ends-so, name-stands, body-stands, simple-stands, term-stands}
+use Rattle.rb_completion_laws.proofs.Viable.{Viable, ABody, AParted, bodied, ASimple, ATerm, APrimary, ends-so, name-stands, body-stands, simple-stands, term-stands}
 
 pub end-stands : Stands (One shape.End)
 unfolding shape_of

@@ -14,7 +14,7 @@ use Rattle.rb_tree.specs.declared.token.Shape.TheVariants as shape
 use Rattle.rb_expr.specs.declared.form.Form.{Form}
 use Rattle.rb_expr.specs.declared.form.Form.TheVariants as form
 use Rattle.rb_expr.specs.Operators.{unary_operation, binary_operation, prefixed_by, prefixed, powered, power, negated, climb_by, climb_from, climb, operation, alternatives, chosen, tern, tern_behind}
-use Rattle.rb_expr.specs.Reading.{Outcome, Parser, sees, after, touches}
+use Rattle.rb_expr.specs.Reading.{Parser, sees, after, touches}
 use Rattle.rb_expr.specs.Shapes.{binary_of, level_of, ceiling, between, operator_between, sees_number, is_signed, is_sign, is_negation, prefix_by, prefix_of}
 use Rattle.rb_rules.specs.Tokens.{Is, IsAny, Touches, IsBeforeNumber, IsRaised, NUMBERS}
 use Rattle.rb_rules.specs.Forms.{Operates, is_begin}
@@ -24,7 +24,7 @@ use Rattle.rb_rules.specs.Grammar.DerivesLevel.{FromLeft, Once, Negated, Raised,
 use Rattle.rb_rules.specs.Grammar.DerivesPrefixed.{Prefixed}
 use Rattle.rb_grammar.proofs.Steps.{same, shown}
 use Rattle.rb_grammar.proofs.Lists.{and-left, and-right}
-use Rattle.rb_completion_laws.proofs.Steps.{Rel, This, Fits, Reach, Completes, Stands, Seq, seq-stands, reach-as, reach-more, reach-one, reach-this, reach-token, reach-fits, complete-as, complete-behind, complete-token, complete-fits, complete-reach, Goes, bind, goes-as, choosing, Plain, seq, answering, One, one-stands, expecting, before-one, fits-before}
+use Rattle.rb_completion_laws.proofs.Steps.{Rel, This, Fits, Reach, Stands, Seq, seq-stands, reach-as, reach-more, reach-one, reach-this, reach-token, reach-fits, complete-as, complete-behind, complete-token, complete-fits, complete-reach, bind, goes-as, choosing, Plain, seq, answering, One, one-stands, expecting, before-one, fits-before}
 use Rattle.rb_completion_laws.proofs.Begins.{noded, level-begins}
 use Rattle.rb_completion_laws.proofs.Viable.{Viable, ATerm, ALevel, AFront, ANegated, LikeTerm, LikeLevel, LikeFront, LikeNegated, Liking, liking, like-any, looser, term-stands}
 use Rattle.rb_completion_laws.proofs.Operands.{is_number, no-number, touch, numbered, not-next}
