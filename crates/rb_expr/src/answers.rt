@@ -1,6 +1,6 @@
 //! What is answered of a form that begins at a place of a list of tokens.
 
-ghost use Rattle.std.specs.Prelude.{◌≡◌, ◌+◌, ◌<◌, ◌≤◌, length, slice_range, drop, IfOk};
+ghost use Rattle.std.specs.Prelude.{◌≡◌, ◌+◌, ◌<◌, ◌≤◌, length, slice_range, drop, IfOk, Ok};
 ghost use Rattle.rb_expr.specs.Answers as spec;
 ghost use Rattle.rb_expr.specs.Answers.{Answers, LiesWithin};
 ghost use Rattle.rb_expr.specs.Reading.{Gives};
@@ -83,6 +83,16 @@ fn bad_at(tokens: &[Token], rest: &[Token]) -> u32
     }
 }
 
+/// The answer of a tree that nothing shares, and the place behind it.
+fn unboxed(tree: Boxed<Tree>, place: usize) -> Result<(Tree, usize), ParseEnd>
+    ensures { Answers result (Ok (tree, place)) }
+{
+    match tree.into_inner() {
+        Some(tree) => Ok((tree, place)),
+        None => Err(ParseEnd::NoMemory),
+    }
+}
+
 /// The answer where no token is too deep.
 #[tactic(auto, unfolding(crate::specs::Answers::whole))]
 fn whole(
@@ -95,7 +105,7 @@ fn whole(
     ensures { Answers result (spec.whole rule tokens.now from) }
 {
     match ruled(alloc, rule, &tokens[from..]) {
-        Ok((tree, rest)) => Ok((tree.into_inner(), tokens.len().saturating_sub(rest.len()))),
+        Ok((tree, rest)) => unboxed(tree, tokens.len().saturating_sub(rest.len())),
         Err(Stop::Memory) => Err(ParseEnd::NoMemory),
         Err(Stop::Refused(rest)) => Err(ParseEnd::Bad {
             at: bad_at(tokens, rest),
@@ -121,7 +131,7 @@ fn cut(
     };
     match ruled(alloc, rule, &tokens[from..deep + 1]) {
         Ok((_, [])) => Err(too_deep),
-        Ok((tree, rest)) => Ok((tree.into_inner(), (deep + 1).saturating_sub(rest.len()))),
+        Ok((tree, rest)) => unboxed(tree, (deep + 1).saturating_sub(rest.len())),
         Err(Stop::Memory) => Err(ParseEnd::NoMemory),
         Err(Stop::Refused([])) => Err(too_deep),
         Err(Stop::Refused([first, ..])) => Err(ParseEnd::Bad {

@@ -1,4 +1,4 @@
-//! `if`, `unless`, `while`, `until` and `case`, each with its `end`.
+//! `if`, `unless`, `while`, `until`, `case` and `begin`, each with its `end`.
 
 ghost use Rattle.std.specs.Prelude.{◌≡◌};
 ghost use Rattle.rb_expr.specs.Branches as branches;
@@ -7,8 +7,8 @@ ghost use Rattle.rb_expr.specs.Reading.{Gives};
 
 use crate::form::Form;
 use crate::grammar::Grammar;
-use crate::reading::{Read, Stop, after, expect, sees, skip_separators, take};
-use rb_tree::syntax::{Arm, Test, Tree, When};
+use crate::reading::{Read, Stop, after, expect, named, sees, skip_separators, take};
+use rb_tree::syntax::{Arm, Guarded, PlacedName, Rescue, Test, Tree, When};
 use rb_tree::token::{Shape, Token};
 use srb_terms::{Boxed, Items, Span};
 use std::alloc::Global;
@@ -46,6 +46,26 @@ fn do_word<'a>(tokens: &'a [Token]) -> Read<'a, Span>
     } else {
         expect(Shape::Separator, tokens)
     }
+}
+
+/// Whether no pattern stands behind a `rescue`.
+#[tactic(auto, unfolding(crate::specs::Branches::rescues_all))]
+fn rescues_all(tokens: &[Token]) -> bool
+    ensures { result ≡ branches.rescues_all tokens.now }
+{
+    sees(Shape::Arrow, tokens) || sees(Shape::Then, tokens) || sees(Shape::Separator, tokens)
+}
+
+/// `=>` and the variable of a `rescue`, if `=>` comes next.
+#[tactic(auto, unfolding(crate::specs::Branches::rescue_variable))]
+fn rescue_variable<'a>(alloc: Global, tokens: &'a [Token]) -> Read<'a, Option<PlacedName>>
+    ensures { Gives (λ x. (x.0, x.1.now)) result (branches.rescue_variable tokens.now) }
+{
+    if !sees(Shape::Arrow, tokens) {
+        return Ok((None, tokens));
+    }
+    let (variable, rest) = named(alloc, Shape::Identifier, after(tokens))?;
+    Ok((Some(variable), rest))
 }
 
 impl<
@@ -239,5 +259,116 @@ impl<
             span,
         };
         Ok((Boxed::new(self.alloc, tree)?, rest))
+    }
+    /// What a `rescue` rescues, if it is told.
+    #[tactic(auto, unfolding(crate::specs::Branches::raised))]
+    fn raised<'a>(&self, tokens: &'a [Token]) -> Read<'a, Items<Boxed<Tree>>>
+        requires { Nests self.now.depth (F.pre self.now.nested) (F.post self.now.nested) }
+        ensures { Gives (λ x. (x.0, x.1.now)) result (branches.raised (parsed self.now.depth) self.now.depth self.now.takes_do tokens.now) }
+    {
+        if rescues_all(tokens) {
+            Ok((Items::new(self.alloc), tokens))
+        } else {
+            self.patterns(tokens)
+        }
+    }
+
+    #[tactic(auto, unfolding(crate::specs::Branches::rescue_clause))]
+    fn rescue_clause<'a>(&self, tokens: &'a [Token]) -> Read<'a, Rescue<Boxed<Tree>>>
+        requires { Nests self.now.depth (F.pre self.now.nested) (F.post self.now.nested) }
+        ensures { Gives (λ x. (x.0, x.1.now)) result (branches.rescue_clause (parsed self.now.depth) self.now.depth self.now.takes_do tokens.now) }
+    {
+        let (_, rest) = expect(Shape::Rescue, tokens)?;
+        let (patterns, rest) = self.raised(rest)?;
+        let (variable, rest) = rescue_variable(self.alloc, rest)?;
+        let (_, rest) = then_word(rest)?;
+        let (body, rest) = self.form(Form::Body, self.takes_do, rest)?;
+        let clause = Rescue {
+            patterns,
+            variable,
+            body,
+        };
+        Ok((clause, rest))
+    }
+
+    fn rescues<'a>(&self, tokens: &'a [Token]) -> Read<'a, Items<Rescue<Boxed<Tree>>>>
+        requires { Nests self.now.depth (F.pre self.now.nested) (F.post self.now.nested) }
+        ensures { Gives (λ x. (x.0, x.1.now)) result (branches.rescues (parsed self.now.depth) self.now.depth self.now.takes_do tokens.now) }
+    {
+        let mut found = Items::new(self.alloc);
+        let mut rest = tokens;
+        for _turn in 0..self.depth {
+            if !sees(Shape::Rescue, rest) {
+                return Ok((found, rest));
+            }
+            let (clause, behind) = self.rescue_clause(rest)?;
+            found.push(clause)?;
+            rest = behind;
+        }
+        Err(Stop::Refused(rest))
+    }
+
+    /// What stands behind `else`, if it comes next. It stands behind a `rescue` alone.
+    #[tactic(auto, unfolding(crate::specs::Branches::otherwise_behind))]
+    fn otherwise_behind<'a>(
+        &self,
+        rescues: &Items<Rescue<Boxed<Tree>>>,
+        tokens: &'a [Token],
+    ) -> Read<'a, Option<Boxed<Tree>>>
+        requires { Nests self.now.depth (F.pre self.now.nested) (F.post self.now.nested) }
+        ensures { Gives (λ x. (x.0, x.1.now)) result (branches.otherwise_behind (parsed self.now.depth) self.now.depth self.now.takes_do rescues.now tokens.now) }
+    {
+        if rescues.is_empty() {
+            return Ok((None, tokens));
+        }
+        self.otherwise(tokens)
+    }
+
+    /// `ensure` and a body, if they come next.
+    #[tactic(auto, unfolding(crate::specs::Branches::ensure))]
+    fn ensure<'a>(&self, tokens: &'a [Token]) -> Read<'a, Option<Boxed<Tree>>>
+        requires { Nests self.now.depth (F.pre self.now.nested) (F.post self.now.nested) }
+        ensures { Gives (λ x. (x.0, x.1.now)) result (branches.ensure (parsed self.now.depth) self.now.depth self.now.takes_do tokens.now) }
+    {
+        if !sees(Shape::Ensure, tokens) {
+            return Ok((None, tokens));
+        }
+        let (body, rest) = self.form(Form::Body, self.takes_do, after(tokens))?;
+        Ok((Some(body), rest))
+    }
+
+    /// A body and what guards it.
+    #[tactic(auto, unfolding(crate::specs::Branches::guarded))]
+    pub fn guarded<'a>(&self, tokens: &'a [Token]) -> Read<'a, Boxed<Guarded<Boxed<Tree>>>>
+        requires { Nests self.now.depth (F.pre self.now.nested) (F.post self.now.nested) }
+        ensures { Gives (λ x. (x.0, x.1.now)) result (branches.guarded (parsed self.now.depth) self.now.depth self.now.takes_do tokens.now) }
+    {
+        let (body, rest) = self.form(Form::Body, self.takes_do, tokens)?;
+        let (rescues, rest) = self.rescues(rest)?;
+        let (otherwise, rest) = self.otherwise_behind(&rescues, rest)?;
+        let (ensure, rest) = self.ensure(rest)?;
+        let guarded = Guarded {
+            body,
+            rescues,
+            otherwise,
+            ensure,
+        };
+        Ok((Boxed::new(self.alloc, guarded)?, rest))
+    }
+
+    /// `begin`, from that word on.
+    #[tactic(auto, unfolding(crate::specs::Branches::guards))]
+    pub fn guards<'a>(&self, tokens: &'a [Token]) -> Read<'a, Boxed<Tree>>
+        requires { Nests self.now.depth (F.pre self.now.nested) (F.post self.now.nested) }
+        ensures { Gives (λ x. (x.0, x.1.now)) result (branches.guards (parsed self.now.depth) self.now.depth self.now.takes_do tokens.now) }
+    {
+        let (mark, rest) = take(tokens)?;
+        let (guarded, rest) = self.guarded(rest)?;
+        let (closing, rest) = expect(Shape::End, rest)?;
+        let span = Span {
+            start: mark.start,
+            end: closing.end,
+        };
+        Ok((Boxed::new(self.alloc, Tree::Begin { guarded, span })?, rest))
     }
 }

@@ -194,7 +194,7 @@ impl<
                 let (_, behind) = expect(Shape::Pipe, behind)?;
                 return Ok((found, behind));
             }
-            note(self.alloc, &mut names, &next.name)?;
+            note(&mut names, &next.name)?;
             found.push(next)?;
             rest = after(behind);
         }
@@ -221,7 +221,7 @@ impl<
         opener: Shape,
         closer: Shape,
         tokens: &'a [Token],
-    ) -> Read<'a, Block<Boxed<Tree>>>
+    ) -> Read<'a, Boxed<Block<Boxed<Tree>>>>
         requires { Nests self.now.depth (F.pre self.now.nested) (F.post self.now.nested) }
         ensures { Gives (λ x. (x.0, x.1.now)) result (calls.block (parsed self.now.depth) self.now.depth self.now.takes_do opener closer tokens.now) }
     {
@@ -233,19 +233,17 @@ impl<
             start: opening.start,
             end: closing.end,
         };
-        Ok((
-            Block {
-                parameters,
-                body,
-                span,
-            },
-            rest,
-        ))
+        let block = Block {
+            parameters,
+            body,
+            span,
+        };
+        Ok((Boxed::new(self.alloc, block)?, rest))
     }
 
     /// `do`, a body and `end`, if they come next and may be taken here.
     #[tactic(auto, unfolding(crate::specs::Calls::optional_do))]
-    fn optional_do<'a>(&self, tokens: &'a [Token]) -> Read<'a, Option<Block<Boxed<Tree>>>>
+    fn optional_do<'a>(&self, tokens: &'a [Token]) -> Read<'a, Option<Boxed<Block<Boxed<Tree>>>>>
         requires { Nests self.now.depth (F.pre self.now.nested) (F.post self.now.nested) }
         ensures { Gives (λ x. (x.0, x.1.now)) result (calls.optional_do (parsed self.now.depth) self.now.depth self.now.takes_do tokens.now) }
     {
@@ -259,7 +257,7 @@ impl<
 
     /// A block, if one comes next and may be taken here.
     #[tactic(auto, unfolding(crate::specs::Calls::any_block))]
-    fn any_block<'a>(&self, tokens: &'a [Token]) -> Read<'a, Option<Block<Boxed<Tree>>>>
+    fn any_block<'a>(&self, tokens: &'a [Token]) -> Read<'a, Option<Boxed<Block<Boxed<Tree>>>>>
         requires { Nests self.now.depth (F.pre self.now.nested) (F.post self.now.nested) }
         ensures { Gives (λ x. (x.0, x.1.now)) result (calls.any_block (parsed self.now.depth) self.now.depth self.now.takes_do tokens.now) }
     {
@@ -277,7 +275,7 @@ impl<
         &self,
         arguments: &Option<Items<Argument<Boxed<Tree>>>>,
         tokens: &'a [Token],
-    ) -> Read<'a, Option<Block<Boxed<Tree>>>>
+    ) -> Read<'a, Option<Boxed<Block<Boxed<Tree>>>>>
         requires { Nests self.now.depth (F.pre self.now.nested) (F.post self.now.nested) }
         ensures { Gives (λ x. (x.0, x.1.now)) result (calls.optional_block (parsed self.now.depth) self.now.depth self.now.takes_do arguments.now tokens.now) }
     {
@@ -293,7 +291,7 @@ impl<
         &self,
         arguments: &[Argument<Boxed<Tree>>],
         tokens: &'a [Token],
-    ) -> Read<'a, Option<Block<Boxed<Tree>>>>
+    ) -> Read<'a, Option<Boxed<Block<Boxed<Tree>>>>>
         requires { Nests self.now.depth (F.pre self.now.nested) (F.post self.now.nested) }
         ensures { Gives (λ x. (x.0, x.1.now)) result (calls.command_block (parsed self.now.depth) self.now.depth self.now.takes_do arguments.now tokens.now) }
     {

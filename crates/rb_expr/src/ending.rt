@@ -1,11 +1,11 @@
-//! What may follow an operand.
+//! What may follow an operand, and which modifiers may follow a statement.
 
 ghost use Rattle.std.specs.Prelude.{◌≡◌, ◌-◌, length, slice_get};
 ghost use Rattle.rb_expr.specs.Shapes.{assigning_of};
 ghost use Rattle.rb_expr.specs.Statements as spec;
 
-use crate::shapes::{assigning_of, begins_bare};
-use rb_tree::syntax::{Binary, Dot, Suffix, Tree};
+use crate::shapes::{assigning_of, begins_bare, modifier_of};
+use rb_tree::syntax::{Binary, Dot, Modifier, Suffix, Tree};
 use rb_tree::token::Shape;
 
 /// How an operand ends.
@@ -163,5 +163,47 @@ pub fn follower_of(constants: bool, ending: Ending, next: Option<Shape>) -> Foll
             }
         }
         _ => operator_follower(ending, next),
+    }
+}
+
+/// Whether this is a `begin` with its `end` alone.
+#[tactic(auto, unfolding(crate::specs::Statements::is_begin))]
+fn is_begin(statement: &Tree) -> bool
+    ensures { result ≡ spec.is_begin statement.now }
+{
+    match statement {
+        Tree::Begin { .. } => true,
+        _ => false,
+    }
+}
+
+/// Whether the modifier makes a loop.
+fn repeats(modifier: Modifier) -> bool
+    ensures { result ≡ spec.repeats modifier }
+{
+    match modifier {
+        Modifier::If | Modifier::Unless => false,
+        Modifier::While | Modifier::Until => true,
+    }
+}
+
+/// Whether the modifier may stand behind the statement.
+#[tactic(auto, unfolding(crate::specs::Statements::may_modify))]
+fn may_modify(modifier: Modifier, statement: &Tree) -> bool
+    ensures { result ≡ spec.may_modify modifier statement.now }
+{
+    !repeats(modifier) || !is_begin(statement)
+}
+
+/// The modifier that the next token is, if it may stand behind the statement.
+#[tactic(auto, unfolding(crate::specs::Statements::modifier_behind))]
+pub fn modifier_behind(statement: &Tree, next: Option<Shape>) -> Option<Modifier>
+    ensures { result ≡ spec.modifier_behind statement.now next }
+{
+    let modifier = modifier_of(next)?;
+    if may_modify(modifier, statement) {
+        Some(modifier)
+    } else {
+        None
     }
 }

@@ -24,8 +24,6 @@ pub mod reading;
 pub mod rules;
 mod shapes;
 mod statements;
-#[cfg(test)]
-mod tests;
 
 use answers::{Rule, answered};
 use rb_tree::syntax::Tree;
@@ -43,7 +41,7 @@ pub enum ParseEnd {
 }
 
 /// Reads the longest body without declarations that begins at the token `from`, counted from 0. Answers its tree and the place
-/// behind it, counted in tokens.
+/// behind it, counted in tokens. A `rescue` directly behind the last statement is refused.
 ///
 /// `weight` is the weight behind the tokens before `from`, at most 200, and `here` the part of it that the next separator takes
 /// away. `constants` says whether a constant may be assigned to in the body's own statements. Of two refusals the one at the

@@ -89,11 +89,11 @@ pub fn span_of_suffix<T>(suffix: &Suffix<T>) -> Span
 }
 
 /// Where a call ends that has this block, or `end` where it has none.
-pub fn end_with<T>(block: &Option<Block<T>>, end: u32) -> u32
+pub fn end_with<T>(block: &Option<Boxed<Block<T>>>, end: u32) -> u32
     ensures { result ≡ spec.end_with block.now end }
 {
     match block {
-        Some(block) => block.span.end,
+        Some(block) => block.get().span.end,
         None => end,
     }
 }
@@ -182,10 +182,10 @@ fn is_among(names: &IndexSet<Name>, name: &Name) -> bool
 }
 
 /// Adds a name, if it is none of these.
-pub fn note(alloc: Global, names: &mut IndexSet<Name>, name: &Name) -> Result<(), NoMemory>
+pub fn note(names: &mut IndexSet<Name>, name: &Name) -> Result<(), NoMemory>
     ensures { OnOk result (names.new.keys ≡ spec.noted names.old.keys name.now) }
 {
-    names.insert(name.copied(alloc)?)?;
+    names.insert(name.copied()?)?;
     Ok(())
 }
 

@@ -26,7 +26,7 @@ fn call_of(
     name: PlacedName,
     arguments: Option<Items<Argument<Boxed<Tree>>>>,
     end: u32,
-    block: Option<Block<Boxed<Tree>>>,
+    block: Option<Boxed<Block<Boxed<Tree>>>>,
 ) -> Result<Boxed<Tree>, NoMemory>
     ensures { IfOk result (λ tree. tree ≡ operands.call_of name arguments end block) }
 {
@@ -382,6 +382,7 @@ impl<
             Some(Shape::While) => self.repeated(Test::Positive, tokens),
             Some(Shape::Until) => self.repeated(Test::Negative, tokens),
             Some(Shape::Case) => self.choice(tokens),
+            Some(Shape::Begin) => self.guards(tokens),
             _ => Err(Stop::Refused(tokens)),
         }
     }

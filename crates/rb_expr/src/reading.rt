@@ -1,6 +1,6 @@
 //! The steps over tokens that every rule of the grammar is made of.
 
-ghost use Rattle.std.specs.Prelude.{◌≡◌};
+ghost use Rattle.std.specs.Prelude.{◌≡◌, IfOk};
 ghost use Rattle.rb_expr.specs.Reading as spec;
 ghost use Rattle.rb_expr.specs.Reading.{Gives, IsMemory};
 
@@ -110,9 +110,9 @@ pub fn expect<'a>(shape: Shape, tokens: &'a [Token]) -> Read<'a, Span>
     }
 }
 
-/// The words of a token. Nothing where it carries none.
-pub fn words_of(kind: &TokenKind) -> &str
-    ensures { result.now ≡ spec.words_of kind.now }
+/// The words of a token, which share their text with it. Nothing where it carries none.
+fn words_of(alloc: Global, kind: &TokenKind) -> Result<Words, NoMemory>
+    ensures { IfOk result (λ words. words ≡ spec.words_of kind.now) }
 {
     match kind {
         TokenKind::Identifier { words }
@@ -122,9 +122,17 @@ pub fn words_of(kind: &TokenKind) -> &str
         | TokenKind::Symbol { words }
         | TokenKind::Whole { words }
         | TokenKind::Float { words }
-        | TokenKind::Text { words } => words.as_str(),
-        _ => "",
+        | TokenKind::Text { words } => words.copied(),
+        _ => Words::from_str(alloc, ""),
     }
+}
+
+/// The words of a token as a name, which shares its text with it.
+fn name_of(alloc: Global, kind: &TokenKind) -> Result<Name, NoMemory>
+    ensures { IfOk result (λ name. name ≡ spec.words_of kind.now) }
+{
+    let words = words_of(alloc, kind)?;
+    Name::from_words(&words)
 }
 
 /// Takes a token of this shape as a name.
@@ -133,7 +141,7 @@ pub fn named<'a>(alloc: Global, shape: Shape, tokens: &'a [Token]) -> Read<'a, P
 {
     match tokens {
         [first, rest @ ..] if first.kind.shape().is(shape) => {
-            let name = Name::from_str(alloc, words_of(&first.kind))?;
+            let name = name_of(alloc, &first.kind)?;
             let span = first.span;
             Ok((PlacedName { name, span }, rest))
         }
@@ -147,7 +155,7 @@ pub fn worded<'a>(alloc: Global, shape: Shape, tokens: &'a [Token]) -> Read<'a, 
 {
     match tokens {
         [first, rest @ ..] if first.kind.shape().is(shape) => {
-            let words = Words::from_str(alloc, words_of(&first.kind))?;
+            let words = words_of(alloc, &first.kind)?;
             Ok(((words, first.span), rest))
         }
         _ => Err(Stop::Refused(tokens)),

@@ -7,7 +7,7 @@ ghost use Rattle.rb_expr.specs.Rules as spec;
 
 use crate::grammar::{Grammar, nested};
 use crate::reading::Read;
-use rb_tree::syntax::Tree;
+use rb_tree::syntax::{Guarded, Tree};
 use rb_tree::token::Token;
 use srb_terms::Boxed;
 use std::alloc::Global;
@@ -50,12 +50,22 @@ pub fn longest_body<'a>(
     .body(constants, tokens)
 }
 
-/// The longest body without declarations, in which no constant is assigned to.
-#[tactic(auto, unfolding(crate::specs::Rules::body))]
-pub fn body<'a>(alloc: Global, depth: usize, tokens: &'a [Token]) -> Read<'a, Boxed<Tree>>
-    ensures { Gives (λ x. (x.0, x.1.now)) result (spec.body depth tokens.now) }
+/// A body without declarations and what guards it. No constant is assigned to in it.
+#[tactic(auto, unfolding(crate::specs::Rules::guarded))]
+pub fn guarded<'a>(
+    alloc: Global,
+    depth: usize,
+    tokens: &'a [Token],
+) -> Read<'a, Boxed<Guarded<Boxed<Tree>>>>
+    ensures { Gives (λ x. (x.0, x.1.now)) result (spec.guarded depth tokens.now) }
 {
-    longest_body(alloc, depth, false, tokens)
+    Grammar {
+        alloc,
+        depth,
+        takes_do: true,
+        nested,
+    }
+    .guarded(tokens)
 }
 
 /// An expression with operators, at most `? :`.

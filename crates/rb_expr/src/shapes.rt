@@ -28,7 +28,8 @@ pub fn begins_bare(shape: Shape) -> bool
         | Shape::False
         | Shape::Yield
         | Shape::Super
-        | Shape::Case => true,
+        | Shape::Case
+        | Shape::Begin => true,
         _ => false,
     }
 }

@@ -5,13 +5,13 @@ ghost use Rattle.rb_expr.specs.Grammar.{Nests, parsed};
 ghost use Rattle.rb_expr.specs.Reading.{Gives};
 ghost use Rattle.rb_expr.specs.Statements as statements;
 
-use crate::ending::{Follower, ending_of, follower_of};
+use crate::ending::{Follower, ending_of, follower_of, modifier_behind};
 use crate::form::Form;
 use crate::grammar::Grammar;
 use crate::lists::end_with;
 use crate::operators::across;
 use crate::reading::{Read, Stop, expect, peek, sees, skip_separators, start_of, take};
-use crate::shapes::{begins_statement, has_prefix, has_value, jump_of, modifier_of};
+use crate::shapes::{begins_statement, has_prefix, has_value, jump_of};
 use rb_tree::syntax::{Binary, Jump, Modifier, Tree};
 use rb_tree::token::{Shape, Token};
 use srb_terms::{Boxed, Items, NoMemory, Span};
@@ -219,7 +219,7 @@ impl<
         let mut longest = inner;
         let mut rest = tokens;
         for _turn in 0..self.depth {
-            let Some(modifier) = modifier_of(peek(rest)) else {
+            let Some(modifier) = modifier_behind(longest.get(), peek(rest)) else {
                 return Ok((longest, rest));
             };
             let (longer, behind) = self.modified(modifier, longest, rest)?;
@@ -249,13 +249,13 @@ impl<
         let mut rest = tokens;
         for _turn in 0..self.depth {
             if !begins_statement(rest) {
-                return Ok((body_of(self.alloc, found, start, end)?, rest));
+                return Ok((body_of(self.alloc, found, Span { start, end })?, rest));
             }
             let (next, behind) = self.statement(constants, rest)?;
             end = next.get().span().end;
             found.push(next)?;
             if !sees(Shape::Separator, behind) {
-                return Ok((body_of(self.alloc, found, start, end)?, behind));
+                return ended(self.alloc, found, Span { start, end }, behind);
             }
             rest = skip_separators(behind);
         }
@@ -276,11 +276,25 @@ impl<
 fn body_of(
     alloc: Global,
     statements: Items<Boxed<Tree>>,
-    start: u32,
-    end: u32,
+    span: Span,
 ) -> Result<Boxed<Tree>, NoMemory>
-    ensures { IfOk result (λ body. body ≡ Tree.Body statements (record { start = start; end = end })) }
+    ensures { IfOk result (λ body. body ≡ Tree.Body statements span) }
 {
-    let span = Span { start, end };
     Boxed::new(alloc, Tree::Body { statements, span })
+}
+
+/// The body of these statements, which ends behind the last. A `rescue` doesn't stand there without a separator.
+#[tactic(auto, unfolding(crate::specs::Statements::ended))]
+fn ended<'a>(
+    alloc: Global,
+    found: Items<Boxed<Tree>>,
+    span: Span,
+    tokens: &'a [Token],
+) -> Read<'a, Boxed<Tree>>
+    ensures { Gives (λ x. (x.0, x.1.now)) result (statements.ended found span tokens.now) }
+{
+    if sees(Shape::Rescue, tokens) {
+        return Err(Stop::Refused(tokens));
+    }
+    Ok((body_of(alloc, found, span)?, tokens))
 }
