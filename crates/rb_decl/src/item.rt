@@ -48,7 +48,7 @@ pub enum Head {
     Class {
         start: u32,
         path: Items<PlacedName>,
-        superclass: Option<Reference>,
+        superclass: Option<Boxed<Reference>>,
     },
     Module {
         start: u32,

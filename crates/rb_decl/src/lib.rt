@@ -11,8 +11,6 @@ mod method;
 mod name;
 mod parameter;
 mod program;
-#[cfg(test)]
-mod tests;
 
 use rb_expr::ParseEnd;
 use rb_tree::syntax::Tree;

@@ -6,8 +6,8 @@ ghost use Rattle.rb_decl.specs.Methods as spec;
 
 use crate::parameter::parameters;
 use rb_expr::reading::{Read, Stop, after, expect, sees};
-use rb_expr::rules::body;
-use rb_tree::syntax::{Parameter, PlacedName, Tree, Visibility};
+use rb_expr::rules::guarded;
+use rb_tree::syntax::{Guarded, Parameter, PlacedName, Tree, Visibility};
 use rb_tree::token::{Shape, Token, TokenKind};
 use srb_terms::{Boxed, Items, Name, NoMemory, Span, Words};
 use std::alloc::Global;
@@ -103,7 +103,7 @@ fn setter(alloc: Global, words: &Words) -> Result<Name, NoMemory>
 {
     let mut text = String::from_str(alloc, words.as_str())?;
     text.push_str("=")?;
-    Ok(Name::from_string(text))
+    Name::from_string(text)
 }
 
 /// A name, perhaps with `=` behind it.
@@ -117,7 +117,7 @@ fn plain_name<'a>(
     ensures { Gives (λ x. (x.0, x.1.now)) result (spec.plain_name words.now span tokens.now) }
 {
     if !sees(Shape::Assign, tokens) {
-        let name = Name::from_str(alloc, words.as_str())?;
+        let name = Name::from_words(words)?;
         return Ok((PlacedName { name, span }, tokens));
     }
     let (equals, rest) = expect(Shape::Assign, tokens)?;
@@ -149,7 +149,7 @@ fn method_name<'a>(alloc: Global, tokens: &'a [Token]) -> Read<'a, PlacedName>
             },
             rest @ ..,
         ] => {
-            let name = Name::from_str(alloc, words.as_str())?;
+            let name = Name::from_words(words)?;
             Ok((PlacedName { name, span: *span }, rest))
         }
         [first, rest @ ..] => operator_name(alloc, first.kind.shape(), first.span, tokens, rest),
@@ -205,8 +205,13 @@ fn method_head<'a>(
     Ok((head, rest))
 }
 
-fn tree_of(alloc: Global, head: Head, body: Boxed<Tree>, end: u32) -> Result<Boxed<Tree>, NoMemory>
-    ensures { IfOk result (λ t. t ≡ spec.tree_of head body end) }
+fn tree_of(
+    alloc: Global,
+    head: Head,
+    guarded: Boxed<Guarded<Boxed<Tree>>>,
+    end: u32,
+) -> Result<Boxed<Tree>, NoMemory>
+    ensures { IfOk result (λ t. t ≡ spec.tree_of head guarded end) }
 {
     let span = Span {
         start: head.start,
@@ -220,7 +225,7 @@ fn tree_of(alloc: Global, head: Head, body: Boxed<Tree>, end: u32) -> Result<Box
             name: head.name.name,
             name_span: head.name.span,
             parameters: head.parameters,
-            body,
+            guarded,
             span,
         },
     )
@@ -238,9 +243,9 @@ fn defined<'a>(
     ensures { Gives (λ x. (x.0, x.1.now)) result (spec.defined depth visibility start tokens.now) }
 {
     let (head, rest) = method_head(alloc, depth, visibility, start, tokens)?;
-    let (body, rest) = body(alloc, depth, rest)?;
+    let (found, rest) = guarded(alloc, depth, rest)?;
     let (end, rest) = expect(Shape::End, rest)?;
-    Ok((tree_of(alloc, head, body, end.end)?, rest))
+    Ok((tree_of(alloc, head, found, end.end)?, rest))
 }
 
 /// Where the next token begins.

@@ -8,12 +8,12 @@ ghost use Rattle.rb_decl.specs.Names as spec;
 use rb_expr::reading::{Read, Stop, after, expect, sees};
 use rb_tree::syntax::{PlacedName, Reference};
 use rb_tree::token::{Shape, Token, TokenKind};
-use srb_terms::{Items, Name, Span};
+use srb_terms::{Boxed, Items, Name, Span};
 use std::alloc::Global;
 
 /// A constant.
 #[tactic(auto, unfolding(crate::specs::Names::constant))]
-pub fn constant<'a>(alloc: Global, tokens: &'a [Token]) -> Read<'a, PlacedName>
+pub fn constant<'a>(tokens: &'a [Token]) -> Read<'a, PlacedName>
     ensures { Gives (λ x. (x.0, x.1.now)) result (spec.constant tokens.now) }
 {
     match tokens {
@@ -24,7 +24,7 @@ pub fn constant<'a>(alloc: Global, tokens: &'a [Token]) -> Read<'a, PlacedName>
             },
             rest @ ..,
         ] => {
-            let name = Name::from_str(alloc, words.as_str())?;
+            let name = Name::from_words(words)?;
             Ok((PlacedName { name, span: *span }, rest))
         }
         _ => Err(Stop::Refused(tokens)),
@@ -50,7 +50,7 @@ pub fn path<'a>(
     let mut found = Items::new(alloc);
     let mut rest = tokens;
     for _turn in 0..depth {
-        let (name, behind) = constant(alloc, rest)?;
+        let (name, behind) = constant(rest)?;
         found.push(name)?;
         if !goes_on(long, behind) {
             return Ok((found, behind));
@@ -132,12 +132,13 @@ pub fn superclass<'a>(
     alloc: Global,
     depth: usize,
     tokens: &'a [Token],
-) -> Read<'a, Option<Reference>>
+) -> Read<'a, Option<Boxed<Reference>>>
     ensures { Gives (λ x. (x.0, x.1.now)) result (spec.superclass depth tokens.now) }
 {
     if !sees(Shape::Less, tokens) {
         return Ok((None, tokens));
     }
     let (reference, rest) = reference(alloc, depth, after(tokens))?;
-    Ok((Some(reference), rest))
+    let boxed = Boxed::new(alloc, reference)?;
+    Ok((Some(boxed), rest))
 }

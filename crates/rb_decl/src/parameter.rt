@@ -9,7 +9,7 @@ use rb_expr::reading::{Read, Stop, after, expect, sees, skip_separators};
 use rb_expr::rules::tern;
 use rb_tree::syntax::{Parameter, Tree};
 use rb_tree::token::{Shape, Token, TokenKind};
-use srb_terms::{Boxed, Items, Name, NoMemory, Span, Words};
+use srb_terms::{Boxed, Items, Name, NoMemory, ParamKind, Span, Words};
 use std::alloc::Global;
 
 /// Which parameters may still come.
@@ -25,28 +25,15 @@ pub enum Stage {
     Block,
 }
 
-/// The name of a parameter.
-fn name_of(parameter: &Parameter<Boxed<Tree>>) -> &Name
-    ensures { result.now ≡ spec.name_of parameter.now }
+/// Which parameters may come behind one of this kind.
+fn stage_behind(kind: ParamKind) -> Stage
+    ensures { result ≡ spec.stage_behind kind }
 {
-    match parameter {
-        Parameter::Required { name, .. }
-        | Parameter::Optional { name, .. }
-        | Parameter::RequiredKeyword { name, .. }
-        | Parameter::OptionalKeyword { name, .. }
-        | Parameter::Block { name, .. } => name,
-    }
-}
-
-/// Which parameters may come behind such a one.
-fn stage_behind(parameter: &Parameter<Boxed<Tree>>) -> Stage
-    ensures { result ≡ spec.stage_behind parameter.now }
-{
-    match parameter {
-        Parameter::Required { .. } => Stage::Required,
-        Parameter::Optional { .. } => Stage::Optional,
-        Parameter::RequiredKeyword { .. } | Parameter::OptionalKeyword { .. } => Stage::Keyword,
-        Parameter::Block { .. } => Stage::Block,
+    match kind {
+        ParamKind::Required => Stage::Required,
+        ParamKind::Optional => Stage::Optional,
+        ParamKind::Key | ParamKind::KeyOptional | ParamKind::Rest => Stage::Keyword,
+        ParamKind::Block => Stage::Block,
     }
 }
 
@@ -59,26 +46,21 @@ fn is_among(names: &IndexSet<Name>, name: &Name) -> bool
 
 /// The name of these words, if it is none of these.
 #[tactic(auto, unfolding(crate::specs::Parameters::fresh))]
-fn fresh(alloc: Global, names: &IndexSet<Name>, words: &Words) -> Result<Option<Name>, NoMemory>
+fn fresh(names: &IndexSet<Name>, words: &Words) -> Result<Option<Name>, NoMemory>
     ensures { IfOk result (λ name. name ≡ spec.fresh names.now.keys words.now) }
 {
-    let name = Name::from_str(alloc, words.as_str())?;
+    let name = Name::from_words(words)?;
     if is_among(names, &name) {
         return Ok(None);
     }
     Ok(Some(name))
 }
 
-/// Adds the name of a parameter, which is none of these.
-fn note(
-    alloc: Global,
-    names: &mut IndexSet<Name>,
-    parameter: &Parameter<Boxed<Tree>>,
-) -> Result<(), NoMemory>
-    ensures { OnOk result (names.new.keys ≡ spec.noted names.old.keys (spec.name_of parameter.now)) }
+/// Adds a name, if it is none of these.
+fn note(names: &mut IndexSet<Name>, name: &Name) -> Result<(), NoMemory>
+    ensures { OnOk result (names.new.keys ≡ spec.noted names.old.keys name.now) }
 {
-    let name = name_of(parameter).copied(alloc)?;
-    names.insert(name)?;
+    names.insert(name.copied()?)?;
     Ok(())
 }
 
@@ -109,6 +91,22 @@ fn is_last(stage: Stage) -> bool
     }
 }
 
+fn parameter_of(
+    kind: ParamKind,
+    name: Name,
+    span: Span,
+    default: Option<Boxed<Tree>>,
+) -> Parameter<Boxed<Tree>>
+    ensures { result ≡ spec.parameter_of kind name span default }
+{
+    Parameter {
+        kind,
+        name,
+        span,
+        default,
+    }
+}
+
 /// Behind the name of a parameter that is no keyword.
 #[tactic(auto, unfolding(crate::specs::Parameters::plain))]
 fn plain<'a>(
@@ -124,18 +122,14 @@ fn plain<'a>(
     if sees(Shape::Assign, tokens) {
         let (default, rest) = tern(alloc, depth, after(tokens))?;
         return Ok((
-            Parameter::Optional {
-                name,
-                span,
-                default,
-            },
+            parameter_of(ParamKind::Optional, name, span, Some(default)),
             rest,
         ));
     }
     if !is_first(stage) {
         return Err(Stop::Refused(tokens));
     }
-    Ok((Parameter::Required { name, span }, tokens))
+    Ok((parameter_of(ParamKind::Required, name, span, None), tokens))
 }
 
 /// Whether no default stands behind the label of a keyword.
@@ -157,26 +151,18 @@ fn keyword<'a>(
     ensures { Gives (λ x. (x.0, x.1.now)) result (spec.keyword depth name span tokens.now) }
 {
     if has_no_default(tokens) {
-        return Ok((Parameter::RequiredKeyword { name, span }, tokens));
+        return Ok((parameter_of(ParamKind::Key, name, span, None), tokens));
     }
     let (default, rest) = tern(alloc, depth, tokens)?;
     Ok((
-        Parameter::OptionalKeyword {
-            name,
-            span,
-            default,
-        },
+        parameter_of(ParamKind::KeyOptional, name, span, Some(default)),
         rest,
     ))
 }
 
 /// Behind the `&` of a block.
 #[tactic(auto, unfolding(crate::specs::Parameters::block))]
-fn block<'a>(
-    alloc: Global,
-    names: &IndexSet<Name>,
-    tokens: &'a [Token],
-) -> Read<'a, Parameter<Boxed<Tree>>>
+fn block<'a>(names: &IndexSet<Name>, tokens: &'a [Token]) -> Read<'a, Parameter<Boxed<Tree>>>
     ensures { Gives (λ x. (x.0, x.1.now)) result (spec.block names.now.keys tokens.now) }
 {
     match tokens {
@@ -186,8 +172,8 @@ fn block<'a>(
                 span,
             },
             rest @ ..,
-        ] => match fresh(alloc, names, words)? {
-            Some(name) => Ok((Parameter::Block { name, span: *span }, rest)),
+        ] => match fresh(names, words)? {
+            Some(name) => Ok((parameter_of(ParamKind::Block, name, *span, None), rest)),
             None => Err(Stop::Refused(tokens)),
         },
         _ => Err(Stop::Refused(tokens)),
@@ -212,7 +198,7 @@ fn parameter<'a>(
                 span,
             },
             rest @ ..,
-        ] if is_plain(stage) => match fresh(alloc, names, words)? {
+        ] if is_plain(stage) => match fresh(names, words)? {
             Some(name) => plain(alloc, depth, stage, name, *span, rest),
             None => Err(Stop::Refused(tokens)),
         },
@@ -222,7 +208,7 @@ fn parameter<'a>(
                 span,
             },
             rest @ ..,
-        ] => match fresh(alloc, names, words)? {
+        ] => match fresh(names, words)? {
             Some(name) => keyword(alloc, depth, name, *span, rest),
             None => Err(Stop::Refused(tokens)),
         },
@@ -232,7 +218,7 @@ fn parameter<'a>(
                 ..
             },
             rest @ ..,
-        ] => block(alloc, names, rest),
+        ] => block(names, rest),
         _ => Err(Stop::Refused(tokens)),
     }
 }
@@ -270,8 +256,8 @@ pub fn row<'a>(
     let mut rest = tokens;
     for _turn in 0..depth {
         let (next, behind) = parameter(alloc, depth, stage, &names, rest)?;
-        stage = stage_behind(&next);
-        note(alloc, &mut names, &next)?;
+        stage = stage_behind(next.kind);
+        note(&mut names, &next.name)?;
         found.push(next)?;
         if is_over(stage, behind) {
             return Ok((found, behind));

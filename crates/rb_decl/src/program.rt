@@ -1,6 +1,6 @@
 //! Whole programs.
 
-ghost use Rattle.std.specs.Prelude.{◌≡◌, ◌<◌, ◌≤◌, ◌+◌, ◌^◌, length};
+ghost use Rattle.std.specs.Prelude.{◌≡◌, ◌<◌, ◌≤◌, ◌+◌, ◌^◌, length, Ok};
 ghost use Rattle.rb_expr.specs.Reading.{Gives};
 ghost use Rattle.rb_decl.specs.Programs as spec;
 
@@ -45,13 +45,23 @@ fn place_of(tokens: &[Token], rest: &[Token]) -> u32
     }
 }
 
+/// The answer of a tree that nothing shares.
+fn unboxed(tree: Boxed<Tree>) -> Result<Tree, ParseEnd>
+    ensures { spec.Parses result (Ok tree) }
+{
+    match tree.into_inner() {
+        Some(tree) => Ok(tree),
+        None => Err(ParseEnd::NoMemory),
+    }
+}
+
 /// The tree of tokens that nowhere nest too deep.
 #[tactic(auto, unfolding(crate::specs::Programs::whole))]
 fn whole(alloc: Global, tokens: &[Token]) -> Result<Tree, ParseEnd>
     ensures { spec.Parses result (spec.whole tokens.now) }
 {
     match program(alloc, tokens.len() + 2, tokens) {
-        Ok(tree) => Ok(tree.into_inner()),
+        Ok(tree) => unboxed(tree),
         Err(Stop::Refused(rest)) => Err(ParseEnd::Bad {
             at: place_of(tokens, rest),
         }),
