@@ -1,0 +1,8 @@
+//! Views of trees: what the layers above read of a tree without knowing how it was spelled.
+//!
+//! A `Prefix` is an operand with the first of its suffixes, a `Path` is a constant with the constants that follow it by `::`. A contract
+//! sees a view by its `seen` function: as a record of plain values, in which a reference is what it points to.
+#![tactic(auto)]
+
+pub mod place;
+pub mod prefix;
