@@ -1,2 +1,5 @@
+pub mod Calls
+pub mod Paths
 pub mod Places
 pub mod Prefixes
+pub mod Targets

@@ -29,6 +29,10 @@ prefix_of t = whole_at t (out-Tree t)
 abbrev pub first_suffixes : ℕ → Prefix → Prefix
 first_suffixes count p = record { operand = p.operand; suffixes = take count p.suffixes }
 
+-- a prefix without its last suffix
+abbrev pub without_last : Prefix → Prefix
+without_last p = first_suffixes (length p.suffixes - 1) p
+
 -- the place of a suffix
 abbrev pub suffix_span : {X : Type 0} → Suffix X → Span
 suffix_span (suffix.Call dot name name_span arguments block span) = span

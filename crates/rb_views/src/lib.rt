@@ -4,5 +4,8 @@
 //! sees a view by its `seen` function: as a record of plain values, in which a reference is what it points to.
 #![tactic(auto)]
 
+pub mod call;
+pub mod path;
 pub mod place;
 pub mod prefix;
+pub mod target;

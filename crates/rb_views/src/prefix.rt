@@ -1,6 +1,7 @@
 //! Prefixes: an operand with the first of its suffixes. `a.b[c]` has the prefixes `a`, `a.b` and `a.b[c]`.
 
 ghost use Rattle.std.specs.Prelude.{◌≡◌, ◌-◌, length, slice_get};
+ghost use Rattle.std.specs.Option.{option_copied};
 ghost use Rattle.rb_views.specs.Prefixes as spec;
 
 use rb_tree::syntax::{Suffix, Tree};
@@ -67,6 +68,21 @@ impl<'a> Prefix<'a> {
             operand: self.operand,
             suffixes: &suffixes[..count.min(suffixes.len())],
         }
+    }
+
+    /// The last suffix. `None` exactly where there is none.
+    pub fn last(self) -> Option<&'a Suffix<Boxed<Tree>>>
+        ensures { option_copied result ≡ spec.last_suffix self.entry.suffixes.now }
+    {
+        let suffixes = self.suffixes;
+        suffixes.get(suffixes.len().saturating_sub(1))
+    }
+
+    /// The prefix without its last suffix.
+    pub fn without_last(self) -> Prefix<'a>
+        ensures { spec.seen_prefix result ≡ spec.without_last (spec.seen_prefix self.entry) }
+    {
+        self.first(self.suffixes.len().saturating_sub(1))
     }
 
     /// The place: from the start of the operand to the end of the last suffix. It is the operand's own where there is none.
