@@ -1,4 +1,5 @@
 pub mod Calls
+pub mod Laws
 pub mod Paths
 pub mod Places
 pub mod Prefixes

@@ -37,7 +37,9 @@ pub struct Call<'a> {
 }
 
 /// Arguments in brackets; none where no brackets stand.
-fn arguments_of<'a>(arguments: &'a Option<Items<Argument<Boxed<Tree>>>>) -> &'a [Argument<Boxed<Tree>>]
+fn arguments_of<'a>(
+    arguments: &'a Option<Items<Argument<Boxed<Tree>>>>,
+) -> &'a [Argument<Boxed<Tree>>]
     ensures { result.now ≡ spec.arguments_of arguments.now }
 {
     match arguments {
@@ -124,10 +126,12 @@ impl<'a> Call<'a> {
         ensures { option_map spec.seen_call result ≡ spec.command (option_map seen_callee callee.entry) arguments.now (option_copied block.entry) span }
     {
         match callee {
-            Some(Callee::Name {
-                name,
-                span: name_span,
-            }) => Some(Call {
+            Some(
+                Callee::Name {
+                    name,
+                    span: name_span,
+                },
+            ) => Some(Call {
                 receiver: None,
                 name: name.as_str(),
                 name_span,
@@ -136,12 +140,14 @@ impl<'a> Call<'a> {
                 span,
                 alone: false,
             }),
-            Some(Callee::Call {
-                receiver,
-                dot,
-                name,
-                name_span,
-            }) => Some(Call {
+            Some(
+                Callee::Call {
+                    receiver,
+                    dot,
+                    name,
+                    name_span,
+                },
+            ) => Some(Call {
                 receiver: Some(Receiver {
                     prefix: receiver,
                     dot,

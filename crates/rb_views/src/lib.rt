@@ -5,7 +5,10 @@
 #![tactic(auto)]
 
 pub mod call;
+pub mod laws;
 pub mod path;
 pub mod place;
 pub mod prefix;
 pub mod target;
+#[cfg(test)]
+mod tests;

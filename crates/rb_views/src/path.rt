@@ -24,7 +24,9 @@ pub enum PathNames<'a> {
         suffixes: &'a [Suffix<Boxed<Tree>>],
     },
     /// Names of a declaration.
-    Placed { names: &'a [PlacedName] },
+    Placed {
+        names: &'a [PlacedName],
+    },
 }
 
 /// A path of constants, as `A`, `::A` or `A::B::C`.
@@ -53,7 +55,11 @@ impl<'a> PathNames<'a> {
             } => Some((name, span, PathNames::Following { suffixes })),
             PathNames::Following {
                 suffixes: [
-                    Suffix::Constant { name, name_span, .. },
+                    Suffix::Constant {
+                        name,
+                        name_span,
+                        ..
+                    },
                     rest @ ..,
                 ],
             } => Some((name, *name_span, PathNames::Following { suffixes: rest })),

@@ -14,11 +14,20 @@ use srb_terms::{Boxed, Name, Span};
 #[derive(Clone, Copy)]
 pub enum Target<'a> {
     /// A variable.
-    Variable { name: &'a Name, span: Span },
+    Variable {
+        name: &'a Name,
+        span: Span,
+    },
     /// An instance variable. The name has no `@`, the place does.
-    InstanceVariable { name: &'a Name, span: Span },
+    InstanceVariable {
+        name: &'a Name,
+        span: Span,
+    },
     /// A constant.
-    Constant { name: &'a Name, span: Span },
+    Constant {
+        name: &'a Name,
+        span: Span,
+    },
     /// An attribute of a prefix. The name has no `=`.
     Attribute {
         receiver: Prefix<'a>,
@@ -39,7 +48,10 @@ pub enum Target<'a> {
 #[derive(Clone, Copy)]
 pub enum Callee<'a> {
     /// A name.
-    Name { name: &'a Name, span: Span },
+    Name {
+        name: &'a Name,
+        span: Span,
+    },
     /// A call on a prefix.
     Call {
         receiver: Prefix<'a>,
@@ -60,14 +72,16 @@ impl<'a> Target<'a> {
         ensures { option_map spec.seen_target result ≡ spec.target_by (prefixes.seen_prefix receiver.entry) (option_copied last.entry) }
     {
         match last {
-            Some(Suffix::Call {
-                dot: Dot::Plain,
-                name,
-                name_span,
-                arguments: None,
-                block: None,
-                ..
-            }) => Some(Target::Attribute {
+            Some(
+                Suffix::Call {
+                    dot: Dot::Plain,
+                    name,
+                    name_span,
+                    arguments: None,
+                    block: None,
+                    ..
+                },
+            ) => Some(Target::Attribute {
                 receiver,
                 name,
                 name_span: *name_span,
@@ -118,14 +132,16 @@ impl<'a> Callee<'a> {
         ensures { option_map spec.seen_callee result ≡ spec.callee_by (prefixes.seen_prefix receiver.entry) (option_copied last.entry) }
     {
         match last {
-            Some(Suffix::Call {
-                dot,
-                name,
-                name_span,
-                arguments: None,
-                block: None,
-                ..
-            }) => Some(Callee::Call {
+            Some(
+                Suffix::Call {
+                    dot,
+                    name,
+                    name_span,
+                    arguments: None,
+                    block: None,
+                    ..
+                },
+            ) => Some(Callee::Call {
                 receiver,
                 dot: *dot,
                 name,

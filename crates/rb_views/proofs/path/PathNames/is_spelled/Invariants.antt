@@ -8,4 +8,4 @@ decreases-left l = length l.left
 abbrev pub invariant-left : goal.invariant-left
 invariant-left l =
     spec.spelled (spec.seen_names l.names) (map (λ w. w.now) l.left)
-        ≡ spec.spelled (spec.seen_names l.fn.self) (map (λ w. w.now) l.fn.words)
+    ≡ spec.spelled (spec.seen_names l.fn.self) (map (λ w. w.now) l.fn.words)
