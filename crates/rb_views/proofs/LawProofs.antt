@@ -1,16 +1,15 @@
 -- Proofs of the laws on the views.
-use Rattle.std.proofs.Common.{◌≡◌, ◌↔◌, ◌+◌, ◌-◌, ℕ, suc, Bool, true, false, List, [], ◌∷◌, ◌++◌, map, length, slice_get, Some, bytes_eq, if◌then◌else◌, refl, sym, ◌∙◌, ap, subst, arith, length-append}
+use Rattle.std.proofs.Common.{◌≡◌, ◌-◌, ℕ, Bool, true, false, List, [], ◌∷◌, ◌++◌, map, length, take, slice_get, Option, Some, bytes_eq, refl, sym, ◌∙◌, ap, subst, arith, length-append}
 use Rattle.std.proofs.lemmas.List.{append_assoc, append-nil}
 use Rattle.std.proofs.lemmas.Slice.Eq.{bytes_eq-Decides}
-use Rattle.std.proofs.lemmas.Grind.{common_steps}
-use Rattle.srb_terms.specs.declared.span.Span.{Span}
 use Rattle.rb_tree.specs.Trees.{span_of}
 use Rattle.rb_tree.specs.declared.syntax.PlacedName.{PlacedName}
 use Rattle.rb_tree.specs.declared.syntax.Suffix.{Suffix}
 use Rattle.rb_tree.specs.declared.syntax.Tree.{Tree}
-use Rattle.rb_views.specs.Laws.{FoldStepsOnce, OperandsPlace, EndsWithLast, SpelledByNames}
+use Rattle.rb_views.specs.Laws.{FoldStepsOnce, OperandsPlace, EndsWithLast, CalledByLast, SpelledByNames}
+use Rattle.rb_views.specs.Calls.{call_by, call_by_last}
 use Rattle.rb_views.specs.Paths.{spelled}
-use Rattle.rb_views.specs.Prefixes.{Prefix, prefix_span, suffix_span, last_suffix, up_to_suffix, with_suffix, fold_after, fold_prefixes}
+use Rattle.rb_views.specs.Prefixes.{Prefix, prefix_span, last_suffix, without_last, up_to_suffix, with_suffix, fold_after}
 
 -- ---- folds
 
@@ -34,14 +33,28 @@ last_of_more : (ss : List (Suffix Tree)) (s : Suffix Tree) → slice_get (ss ++ 
 last_of_more [] s = refl
 last_of_more (x ∷ ss) s = last_of_more ss s
 
+shorter : (ss : List (Suffix Tree)) (s : Suffix Tree) → length (ss ++ s ∷ []) - 1 ≡ length ss
+shorter ss s = omega (arith, length-append ss (s ∷ []))
+
+front_of_more : (ss : List (Suffix Tree)) (s : Suffix Tree) → take (length ss) (ss ++ s ∷ []) ≡ ss
+front_of_more [] s = refl
+front_of_more (x ∷ ss) s = ap (λ qs. x ∷ qs) (front_of_more ss s)
+
 last_is : (ss : List (Suffix Tree)) (s : Suffix Tree) → last_suffix (ss ++ s ∷ []) ≡ Some s
-last_is ss s =
-    let e : length (ss ++ s ∷ []) - 1 ≡ length ss = omega (arith, length-append ss (s ∷ [])) in
-    ap (λ n. slice_get (ss ++ s ∷ []) n) e ∙ last_of_more ss s
+last_is ss s = ap (λ n. slice_get (ss ++ s ∷ []) n) (shorter ss s) ∙ last_of_more ss s
+
+front_is : (ss : List (Suffix Tree)) (s : Suffix Tree) → take (length (ss ++ s ∷ []) - 1) (ss ++ s ∷ []) ≡ ss
+front_is ss s = ap (λ n. take n (ss ++ s ∷ [])) (shorter ss s) ∙ front_of_more ss s
 
 pub ends_with_last : EndsWithLast
 unfolding prefix_span
 ends_with_last operand ss s = ap (up_to_suffix (span_of operand)) (last_is ss s)
+
+pub called_by_last : CalledByLast
+called_by_last operand ss s =
+    let row : Prefix = record { operand = operand; suffixes = ss ++ s ∷ [] } in
+    ap (λ (o : Option (Suffix Tree)). call_by_last (without_last row) o) (last_is ss s)
+    ∙ ap (λ (qs : List (Suffix Tree)). call_by (record { operand = operand; suffixes = qs }) s) (front_is ss s)
 
 -- ---- spelling
 

@@ -5,6 +5,7 @@ use Rattle.rb_tree.specs.Trees.{span_of}
 use Rattle.rb_tree.specs.declared.syntax.PlacedName.{PlacedName}
 use Rattle.rb_tree.specs.declared.syntax.Suffix.{Suffix}
 use Rattle.rb_tree.specs.declared.syntax.Tree.{Tree}
+use Rattle.rb_views.specs.Calls.{call_of_row, call_by}
 use Rattle.rb_views.specs.Paths.{spelled}
 use Rattle.rb_views.specs.Prefixes.{Prefix, prefix_span, suffix_span, fold_prefixes}
 
@@ -24,6 +25,12 @@ EndsWithLast =
     (operand : Tree) (ss : List (Suffix Tree)) (s : Suffix Tree) →
     let place : Span = record { start = (span_of operand).start; end = (suffix_span s).end } in
     prefix_span (record { operand = operand; suffixes = ss ++ s ∷ [] }) ≡ place
+
+-- the call that a prefix is is told by its last suffix and the prefix before it
+abbrev pub CalledByLast : Type 0
+CalledByLast =
+    (operand : Tree) (ss : List (Suffix Tree)) (s : Suffix Tree) →
+    call_of_row (record { operand = operand; suffixes = ss ++ s ∷ [] }) ≡ call_by (record { operand = operand; suffixes = ss }) s
 
 -- a path is spelled by its names alone
 abbrev pub SpelledByNames : Type 0

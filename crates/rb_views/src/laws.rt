@@ -1,6 +1,6 @@
 //! Laws on the views.
 
-ghost use Rattle.rb_views.specs.Laws.{EndsWithLast, FoldStepsOnce, OperandsPlace, SpelledByNames};
+ghost use Rattle.rb_views.specs.Laws.{CalledByLast, EndsWithLast, FoldStepsOnce, OperandsPlace, SpelledByNames};
 
 /// The fold over the prefixes of a row with one more suffix is one more step.
 #[tactic(auto, using(crate::proofs::LawProofs::fold_steps_once))]
@@ -13,6 +13,12 @@ pub fn folds_step_once<A>()
 pub fn prefixes_end_with_their_last_suffix()
     ensures none { OperandsPlace }
     ensures some { EndsWithLast }
+{}
+
+/// The call that a prefix is is told by its last suffix and the prefix before it.
+#[tactic(auto, using(crate::proofs::LawProofs::called_by_last))]
+pub fn calls_are_told_by_their_last_suffix()
+    ensures { CalledByLast }
 {}
 
 /// A path is spelled by its names alone.

@@ -1,41 +1,29 @@
+ghost use Rattle.std.specs.Prelude.{◌<◌};
+
 use crate::call::Call;
 use crate::path::Path;
-use crate::place::jump_word;
 use crate::prefix::Prefix;
-use crate::target::{Callee, Target};
-use rb_tree::syntax::{Argument, Block, Dot, Jump, Suffix, Tree};
+use crate::target::Target;
+use rb_tree::syntax::{Argument, Block, Dot, Suffix, Tree};
 use srb_terms::{Boxed, Items, Name, NoMemory, Span};
 use std::alloc::Global;
-use std::test::Fail;
 
 fn place(start: u32, end: u32) -> Span {
     Span { start, end }
 }
 
-// A name alone of one byte.
-fn name(alloc: Global, text: &str, start: u32, end: u32) -> Result<Boxed<Tree>, NoMemory> {
-    Boxed::new(
-        alloc,
-        Tree::Name {
-            name: Name::from_str(alloc, text)?,
-            span: place(start, end),
-        },
-    )
+fn one<T: Drop>(alloc: Global, first: T) -> Result<Items<T>, NoMemory> {
+    let mut items = Items::new(alloc);
+    items.push(first)?;
+    Ok(items)
 }
 
-// `::A`, at the start.
-fn top_constant(alloc: Global) -> Result<Boxed<Tree>, NoMemory> {
-    Boxed::new(
-        alloc,
-        Tree::TopConstant {
-            name: Name::from_str(alloc, "A")?,
-            name_span: place(2, 3),
-            span: place(0, 3),
-        },
-    )
+fn name(alloc: Global, text: &str, span: Span) -> Result<Boxed<Tree>, NoMemory> {
+    let name = Name::from_str(alloc, text)?;
+    Boxed::new(alloc, Tree::Name { name, span })
 }
 
-// A call without brackets and block, of a name of one byte after a dot.
+// A call of a name of one byte after a dot.
 fn plain_call(alloc: Global, text: &str, start: u32) -> Result<Suffix<Boxed<Tree>>, NoMemory>
     requires { start < 1000 }
 {
@@ -49,111 +37,147 @@ fn plain_call(alloc: Global, text: &str, start: u32) -> Result<Suffix<Boxed<Tree
     })
 }
 
-fn post(
-    alloc: Global,
-    receiver: Boxed<Tree>,
-    suffixes: Items<Suffix<Boxed<Tree>>>,
-    span: Span,
-) -> Result<Boxed<Tree>, NoMemory> {
+// `::B` at the place 3.
+fn constant(alloc: Global) -> Result<Suffix<Boxed<Tree>>, NoMemory> {
+    Ok(Suffix::Constant {
+        name: Name::from_str(alloc, "B")?,
+        name_span: place(5, 6),
+        span: place(3, 6),
+    })
+}
+
+// `::A`
+fn top_constant(alloc: Global) -> Result<Boxed<Tree>, NoMemory> {
+    let name = Name::from_str(alloc, "A")?;
     Boxed::new(
         alloc,
-        Tree::Post {
-            receiver,
-            suffixes,
-            span,
+        Tree::TopConstant {
+            name,
+            name_span: place(2, 3),
+            span: place(0, 3),
         },
     )
 }
 
-// `::A::B.c`
-#[test]
-fn a_path_ends_before_a_call(rt: HostRuntime) -> Result<(), Fail> {
-    let alloc = rt.alloc();
-    let mut suffixes = Items::new(alloc);
-    suffixes.push(Suffix::Constant {
-        name: Name::from_str(alloc, "B")?,
-        name_span: place(5, 6),
-        span: place(3, 6),
-    })?;
+// `::B.c` at the place 3.
+fn row(alloc: Global) -> Result<Items<Suffix<Boxed<Tree>>>, NoMemory> {
+    let mut suffixes = one(alloc, constant(alloc)?)?;
     suffixes.push(plain_call(alloc, "c", 6)?)?;
-    let tree = post(alloc, top_constant(alloc)?, suffixes, place(0, 8))?;
-    let path = Path::of(tree.get()).ok_or("no path")?;
-    assert!(rt; path.top);
-    assert_eq!(rt; path.span, place(0, 6));
-    assert_eq!(rt; path.rest.len(), 1);
-    assert!(rt; path.names.is_spelled(&["A", "B"]));
-    assert!(rt; !path.names.is_spelled(&["A"]));
-    assert_eq!(rt; Prefix::of(tree.get()).span(), place(0, 8));
-    assert_eq!(rt; Prefix::of(tree.get()).first(1).span(), place(0, 6));
+    Ok(suffixes)
+}
+
+// `::A::B.c`
+fn called_path(alloc: Global) -> Result<Tree, NoMemory> {
+    let receiver = top_constant(alloc)?;
+    Ok(Tree::Post {
+        receiver,
+        suffixes: row(alloc)?,
+        span: place(0, 8),
+    })
+}
+
+fn is_the_path(tree: &Tree) -> bool {
+    let Some(path) = Path::of(tree) else {
+        return false;
+    };
+    path.top
+        && path.span == place(0, 6)
+        && path.rest.len() == 1
+        && path.names.is_spelled(&["A", "B"])
+        && !path.names.is_spelled(&["A"])
+        && Prefix::of(tree).span() == place(0, 8)
+        && Prefix::of(tree).first(1).span() == place(0, 6)
+}
+
+#[test]
+fn a_path_ends_before_a_call(rt: HostRuntime) -> Result<(), NoMemory> {
+    let tree = called_path(rt.alloc())?;
+    assert!(rt; is_the_path(&tree));
     Ok(())
 }
 
-// `a.f[b]`
-#[test]
-fn an_index_is_called_by_its_brackets(rt: HostRuntime) -> Result<(), Fail> {
-    let alloc = rt.alloc();
-    let mut arguments = Items::new(alloc);
-    arguments.push(Argument::Positional {
-        value: name(alloc, "b", 4, 5)?,
-    })?;
-    let mut suffixes = Items::new(alloc);
-    suffixes.push(plain_call(alloc, "f", 1)?)?;
+// `.f[b]` at the place 1.
+fn indexed(alloc: Global) -> Result<Items<Suffix<Boxed<Tree>>>, NoMemory> {
+    let value = name(alloc, "b", place(4, 5))?;
+    let arguments = one(alloc, Argument::Positional { value })?;
+    let mut suffixes = one(alloc, plain_call(alloc, "f", 1)?)?;
     suffixes.push(Suffix::Index {
         arguments,
         span: place(3, 6),
     })?;
-    let tree = post(alloc, name(alloc, "a", 0, 1)?, suffixes, place(0, 6))?;
-    let call = Call::of(tree.get()).ok_or("no call")?;
-    assert!(rt; call.name == "[]");
-    assert_eq!(rt; call.name_span, place(3, 4));
-    assert_eq!(rt; call.arguments.len(), 1);
-    let receiver = call.receiver.ok_or("no receiver")?;
-    assert_eq!(rt; receiver.prefix.span(), place(0, 3));
-    assert!(rt; matches!(Target::of(tree.get()), Some(Target::Element { .. })));
+    Ok(suffixes)
+}
+
+// `a.f[b]`
+fn index(alloc: Global) -> Result<Tree, NoMemory> {
+    let receiver = name(alloc, "a", place(0, 1))?;
+    Ok(Tree::Post {
+        receiver,
+        suffixes: indexed(alloc)?,
+        span: place(0, 6),
+    })
+}
+
+fn is_the_index(tree: &Tree) -> bool {
+    let Some(call) = Call::of(tree) else {
+        return false;
+    };
+    let Some(receiver) = call.receiver else {
+        return false;
+    };
+    call.name == "[]"
+        && call.name_span == place(3, 4)
+        && call.arguments.len() == 1
+        && receiver.prefix.span() == place(0, 3)
+        && matches!(Target::of(tree), Some(Target::Element { .. }))
+}
+
+#[test]
+fn an_index_is_called_by_its_brackets(rt: HostRuntime) -> Result<(), NoMemory> {
+    let tree = index(rt.alloc())?;
+    assert!(rt; is_the_index(&tree));
     Ok(())
+}
+
+// `do end` at the place 4.
+fn block(alloc: Global) -> Result<Boxed<Block<Boxed<Tree>>>, NoMemory> {
+    let body = Boxed::new(alloc, Tree::Nil { span: place(0, 0) })?;
+    Boxed::new(
+        alloc,
+        Block {
+            parameters: Items::new(alloc),
+            body,
+            span: place(4, 10),
+        },
+    )
 }
 
 // `f a do end`
-#[test]
-fn a_command_keeps_its_block(rt: HostRuntime) -> Result<(), Fail> {
-    let alloc = rt.alloc();
-    let mut arguments = Items::new(alloc);
-    arguments.push(Argument::Positional {
-        value: name(alloc, "a", 2, 3)?,
-    })?;
-    let body = Boxed::new(alloc, Tree::Nil { span: place(0, 0) })?;
-    let block = Block {
-        parameters: Items::new(alloc),
-        body,
-        span: place(4, 10),
-    };
-    let tree = Tree::Command {
-        callee: name(alloc, "f", 0, 1)?,
+fn command(alloc: Global) -> Result<Tree, NoMemory> {
+    let value = name(alloc, "a", place(2, 3))?;
+    let arguments = one(alloc, Argument::Positional { value })?;
+    let callee = name(alloc, "f", place(0, 1))?;
+    Ok(Tree::Command {
+        callee,
         arguments,
-        block: Some(Boxed::new(alloc, block)?),
+        block: Some(block(alloc)?),
         span: place(0, 10),
-    };
-    let call = Call::of(&tree).ok_or("no call")?;
-    assert!(rt; call.name == "f");
-    assert!(rt; !call.alone);
-    assert_eq!(rt; call.span, place(0, 10));
-    assert_eq!(rt; call.block.ok_or("no block")?.span, place(4, 10));
-    Ok(())
+    })
 }
 
-// `yield a`, and the word of a `return`
-#[test]
-fn what_is_no_call(rt: HostRuntime) -> Result<(), Fail> {
-    let alloc = rt.alloc();
-    let tree = Tree::Yield {
-        arguments: None,
-        span: place(0, 5),
+fn is_the_command(tree: &Tree) -> bool {
+    let Some(call) = Call::of(tree) else {
+        return false;
     };
-    assert!(rt; Call::of(&tree).is_none());
-    assert!(rt; matches!(Callee::of(&tree), Some(Callee::Yield)));
-    let alone = name(alloc, "a", 6, 7)?;
-    let call = Call::of(alone.get()).ok_or("no call")?;
-    assert!(rt; call.alone);
-    assert_eq!(rt; jump_word(Jump::Return, place(3, 12)), place(3, 9));
+    let Some(block) = call.block else {
+        return false;
+    };
+    call.name == "f" && !call.alone && call.span == place(0, 10) && block.span == place(4, 10)
+}
+
+#[test]
+fn a_command_keeps_its_block(rt: HostRuntime) -> Result<(), NoMemory> {
+    let tree = command(rt.alloc())?;
+    assert!(rt; is_the_command(&tree));
     Ok(())
 }
