@@ -1,6 +1,6 @@
 //! Laws on the parser's refusals: what is read before a refusal begins a program, so that nothing is refused too late.
 //!
-//! `Begins` of `rb_grammar` says that tokens begin a program: with others behind them they are one. `Begun` says the same of a form,
+//! `Begins` of `rb_rules` says that tokens begin a program: with others behind them they are one. `Begun` says the same of a form,
 //! before any tokens that `Clear` allows behind it.
 #![tactic(auto)]
 
