@@ -10,7 +10,8 @@ use Rattle.lsp_docs.specs.declared.doc_end.DocEnd.TheVariants.{Foreign, Unknown,
 use Rattle.lsp_docs.specs.declared.row.Row.{Row}
 use Rattle.lsp_docs.specs.Paths.{Path, Bytes, has, with_path, without_path}
 use Rattle.lsp_docs.specs.Projects.{Project, Edit, paths_of, with_bytes, after_edit, total_bytes}
-use Rattle.lsp_docs.specs.Documents.{Agreed, Documents, Deed, MOST_FILES, MOST_BYTES, IsDoneFor, after_change, after_deed, agreed_by, no_documents, changes, changes_now, closes, if_open, opens, path_of, sized, where_named}
+use Rattle.lsp_docs.specs.Documents.{Agreed, Documents, Deed, MOST_FILES, IsDoneFor, after_change, after_deed, agreed_by, no_documents, changes, changes_now, closes, if_open, opens, path_of, sized, where_named}
+use Rattle.srb_text.specs.Limits.{MOST_BYTES}
 use Rattle.lsp_docs.specs.Changes.{after_changes, sized_text, sum_with}
 use Rattle.lsp_docs.specs.Rows.{present_of, present_with, size_of, reading, project_of, documents_of, closed_row, opened_row, saved_row, AreRows, IsPlaceOf}
 use Rattle.lsp_docs.proofs.RowLemmas.{Turned, of_row, paths_of-with_bytes, turned-reading, turned-same, turned-with, turned-paths, turned_set, turned_removed, turned_inserted, turned_none, length-project_of}

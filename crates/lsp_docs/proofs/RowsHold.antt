@@ -14,7 +14,8 @@ use Rattle.srb_terms.specs.Projects.{File, IsBeforeAll, IsProject, bytes_at, pat
 use Rattle.lsp_docs.specs.declared.row.Row.{Row}
 use Rattle.lsp_docs.specs.Paths.{Path, Bytes, has}
 use Rattle.lsp_docs.specs.Projects.{paths_of, total_bytes}
-use Rattle.lsp_docs.specs.Documents.{MOST_FILES, MOST_BYTES}
+use Rattle.lsp_docs.specs.Documents.{MOST_FILES}
+use Rattle.srb_text.specs.Limits.{MOST_BYTES}
 use Rattle.lsp_docs.specs.Rows.{present_of, size_of, reading, project_of, closed_row, IsBehindRows, IsBeforeRows, AreRows, IsPlaceOf, IsRowAt}
 use Rattle.lsp_docs.proofs.PathLemmas.{has-paths_of}
 use Rattle.lsp_docs.proofs.RowLemmas.{turned, same_cmp, turned_set, turned_removed, turned_inserted, turned_none, turned-bytes, turned-rows, turned-total, size_within, get_within}

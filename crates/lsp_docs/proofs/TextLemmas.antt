@@ -17,7 +17,8 @@ use Rattle.lsp_msg.specs.declared.placed.Placed.{Placed}
 use Rattle.lsp_docs.specs.declared.doc_end.DocEnd.{DocEnd}
 use Rattle.lsp_docs.specs.declared.doc_end.DocEnd.TheVariants.{Backwards, TooBig}
 use Rattle.lsp_docs.specs.Paths.{Bytes}
-use Rattle.lsp_docs.specs.Documents.{Agreed, MOST_BYTES, after_change, between, placed, text_of, weight}
+use Rattle.lsp_docs.specs.Documents.{Agreed, after_change, between, placed, text_of, weight}
+use Rattle.srb_text.specs.Limits.{MOST_BYTES}
 use Rattle.lsp_docs.specs.Rows.{size_of}
 use Rattle.lsp_docs.specs.Changes.{after_changes, after_sized, sized_text, sum_with}
 

@@ -3,7 +3,8 @@ use Rattle.std.specs.Prelude.{ℕ, ◌+◌, nat_lt, List, [], ◌∷◌, length,
 use Rattle.lsp_msg.specs.declared.change.Change.{Change}
 use Rattle.lsp_docs.specs.declared.doc_end.DocEnd.{DocEnd}
 use Rattle.lsp_docs.specs.declared.doc_end.DocEnd.TheVariants.{TooBig}
-use Rattle.lsp_docs.specs.Documents.{Agreed, MOST_BYTES, after_change}
+use Rattle.lsp_docs.specs.Documents.{Agreed, after_change}
+use Rattle.srb_text.specs.Limits.{MOST_BYTES}
 
 -- the bytes of all texts, where this one has the text
 abbrev pub sum_with : ℕ → List ℕ → ℕ

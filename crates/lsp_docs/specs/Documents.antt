@@ -16,6 +16,7 @@ use Rattle.srb_terms.specs.Projects.{IsProject, bytes_at, put_file}
 use Rattle.lsp_docs.specs.Paths.{Path, Bytes, has, with_path, without_path}
 use Rattle.lsp_docs.specs.Projects.{Project, Edit, after_edit, total_bytes}
 use Rattle.lsp_docs.specs.Uris.{root_of, uri_below, path_below}
+use Rattle.srb_text.specs.Limits.{MOST_BYTES}
 
 -- What the client and the server agree on at the accepted `initialize`.
 pub record Agreed : Type 0 where
@@ -75,12 +76,9 @@ abbrev pub after_deed : Documents → Deed → Documents
 after_deed d (Edits e opened) = record d { project = after_edit d.project e; opened = opened }
 after_deed d (Saves f) = record d { saved = put_file f (unwrap_or (bytes_at f d.project) []) d.saved }
 
--- how many files a project may have, and how many bytes all its texts together
+-- how many files a project may have
 abbrev pub MOST_FILES : ℕ
 MOST_FILES = 4096
-
-abbrev pub MOST_BYTES : ℕ
-MOST_BYTES = 16777216
 
 -- the edit, unless it leaves texts of too many bytes
 abbrev pub sized : Documents → Edit → List Path → Result Deed DocEnd

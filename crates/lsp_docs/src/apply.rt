@@ -4,14 +4,15 @@ ghost use Rattle.lsp_docs.specs.Documents.{Saves, changes_now, closes, if_open, 
 ghost use Rattle.lsp_docs.specs.Rows.{IsDoneBy, IsPlaceOf, IsRefusedBy};
 
 use crate::DocEnd;
-use crate::changes::{BYTES_LIMIT, changed, new_text};
+use crate::changes::{changed, new_text};
 use crate::rows::Rows;
 use lsp_msg::Change;
 use srb_terms::{Items, Name, Words};
+use srb_text::BYTES_LIMIT;
 use std::alloc::Global;
 
 /// The most files that a project may have.
-const FILES_LIMIT: usize = 4096;
+pub const FILES_LIMIT: usize = 4096;
 
 /// `didOpen`: the path has this text and is open.
 pub fn open(alloc: Global, rows: &mut Rows, path: &Name, text: &Words) -> Result<(), DocEnd>

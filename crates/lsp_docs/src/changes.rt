@@ -2,18 +2,16 @@
 ghost use Rattle.std.specs.Prelude.{◌≡◌, ◌≢◌, ◌<◌, ◌≤◌, ◌+◌, length, encode_utf8_all, Ok, Err, IfOk, IfErr, OnOk};
 ghost use Rattle.std.specs.Str.{chars};
 ghost use Rattle.lsp_docs.specs.declared.doc_end.DocEnd.TheVariants.{NoMemory, TooBig};
-ghost use Rattle.lsp_docs.specs.Documents.{Agreed, MOST_BYTES, between};
+ghost use Rattle.lsp_docs.specs.Documents.{Agreed, between};
+ghost use Rattle.srb_text.specs.Limits.{MOST_BYTES};
 ghost use Rattle.lsp_docs.specs.Changes.{after_changes, after_sized, sized_text, sum_with};
 
 use crate::DocEnd;
 use crate::texts::made;
 use lsp_msg::Change;
 use srb_terms::Words;
-use srb_text::{EditFault, Pos, Text, laws};
+use srb_text::{BYTES_LIMIT, EditFault, Pos, Text, laws};
 use std::alloc::Global;
-
-/// The most bytes that the texts of a project may have together.
-pub const BYTES_LIMIT: usize = 16_777_216;
 
 /// The text after the changes, which are applied in order. The texts of the other files have `others` bytes together.
 pub fn changed(

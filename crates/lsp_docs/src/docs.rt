@@ -4,7 +4,8 @@ ghost use Rattle.std.specs.Option.{option_copied};
 ghost use Rattle.srb_terms.specs.Projects.{bytes_at};
 ghost use Rattle.lsp_docs.specs.declared.doc_end.DocEnd.TheVariants.{Foreign, NoMemory};
 ghost use Rattle.lsp_docs.specs.Projects.{paths_of, total_bytes};
-ghost use Rattle.lsp_docs.specs.Documents.{MOST_FILES, MOST_BYTES, AreDocuments, IsAccepted, IsDoneFor, IsRefused, Saves, agreed_by, applied, changes_now, closes, no_documents, opens, path_of, placed, uri_of, where_named, where_open};
+ghost use Rattle.lsp_docs.specs.Documents.{MOST_FILES, AreDocuments, IsAccepted, IsDoneFor, IsRefused, Saves, agreed_by, applied, changes_now, closes, no_documents, opens, path_of, placed, uri_of, where_named, where_open};
+ghost use Rattle.srb_text.specs.Limits.{MOST_BYTES};
 
 use crate::rows::Rows;
 use crate::{Applied, DocEnd, apply, places, texts, uris};

@@ -21,5 +21,6 @@ mod texts;
 mod uris;
 
 pub use applied::Applied;
+pub use apply::FILES_LIMIT;
 pub use doc_end::DocEnd;
 pub use docs::Docs;

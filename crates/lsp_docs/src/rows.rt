@@ -2,7 +2,8 @@
 ghost use Rattle.std.specs.Prelude.{◌≡◌, ◌+◌, ◌<◌, ◌≤◌, length, map, slice_get, slice_set, insert, remove, encode_utf8_all, false, Some, None, IsSome, IfSome, IfNone, IfOk, IfErr, OnOk, OnErr};
 ghost use Rattle.lsp_docs.specs.Paths.{has};
 ghost use Rattle.lsp_docs.specs.Projects.{paths_of, total_bytes};
-ghost use Rattle.lsp_docs.specs.Documents.{MOST_FILES, MOST_BYTES};
+ghost use Rattle.lsp_docs.specs.Documents.{MOST_FILES};
+ghost use Rattle.srb_text.specs.Limits.{MOST_BYTES};
 ghost use Rattle.lsp_docs.specs.Rows.{AreRows, IsPlaceOf, IsRowAt, closed_row, opened_row, present_of, project_of, reading, saved_row, size_of};
 
 use crate::row::Row;
@@ -22,7 +23,8 @@ pub struct Rows {
 impl Model for Rows {
     ghost use Rattle.std.specs.Prelude.{◌≡◌, ◌≤◌, List, length};
     ghost use Rattle.lsp_docs.specs.declared.row.Row.{Row};
-    ghost use Rattle.lsp_docs.specs.Documents.{MOST_FILES, MOST_BYTES};
+    ghost use Rattle.lsp_docs.specs.Documents.{MOST_FILES};
+    ghost use Rattle.srb_text.specs.Limits.{MOST_BYTES};
     ghost use Rattle.lsp_docs.specs.Projects.{total_bytes};
     ghost use Rattle.lsp_docs.specs.Rows.{AreRows, project_of};
 

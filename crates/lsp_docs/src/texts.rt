@@ -2,6 +2,7 @@
 ghost use Rattle.std.specs.Prelude.{◌≡◌, ◌≤◌, length, IfOk};
 ghost use Rattle.std.specs.Str.{chars};
 ghost use Rattle.lsp_docs.specs.Documents.{text_of};
+ghost use Rattle.srb_text.specs.Limits.{MOST_BYTES};
 
 use srb_terms::NoMemory;
 use srb_text::Text;
@@ -9,7 +10,7 @@ use std::alloc::{AllocError, Global};
 
 /// The text of these characters.
 pub fn made(alloc: Global, text: &str) -> Result<Text, NoMemory>
-    requires { length text.now ≤ 16777216 }
+    requires { length text.now ≤ MOST_BYTES }
     ensures { IfOk result (λ made. made ≡ chars text.now) }
 {
     match Text::from_bytes(alloc, text.as_bytes()) {
@@ -20,7 +21,7 @@ pub fn made(alloc: Global, text: &str) -> Result<Text, NoMemory>
 
 /// The text of a file with these bytes; where they are no text it is empty.
 pub fn text_of(alloc: Global, bytes: &[u8]) -> Result<Text, NoMemory>
-    requires { length bytes.now ≤ 16777216 }
+    requires { length bytes.now ≤ MOST_BYTES }
     ensures { IfOk result (λ text. text ≡ text_of bytes.now) }
 {
     match std::str::from_utf8(bytes) {

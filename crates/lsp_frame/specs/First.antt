@@ -1,5 +1,6 @@
 -- The first frame of some bytes.
 use Rattle.std.specs.Prelude.{nat_lt, ℕ, ◌+◌, List, length, if◌then◌else◌}
+use Rattle.lsp_frame.specs.Limits.{LONGEST_BODY}
 use Rattle.lsp_frame.specs.declared.head.Head.{Head}
 use Rattle.lsp_frame.specs.declared.head.Head.TheVariants.{Unended, Broken, Gives}
 use Rattle.lsp_frame.specs.declared.first.First.{First}
@@ -10,7 +11,7 @@ use Rattle.lsp_frame.specs.Head.{head_of}
 -- bytes, and is there where all of them are
 abbrev pub body_of : (length size available : ℕ) → First
 body_of length size available =
-    if nat_lt 16777216 length then Oversized length else (if nat_lt available (size + length) then More else Frame size (size + length))
+    if nat_lt LONGEST_BODY length then Oversized length else (if nat_lt available (size + length) then More else Frame size (size + length))
 
 abbrev pub first_from : Head → ℕ → First
 first_from Unended available = More

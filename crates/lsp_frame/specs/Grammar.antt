@@ -2,6 +2,7 @@
 use Rattle.std.specs.Prelude.{◌≡◌, ℕ, ◌+◌, ◌-◌, ◌*◌, ◌<◌, ◌≤◌, Bool, true, List, [], ◌∷◌, ◌++◌, length, map, take, ⊤, ◌⊎◌}
 use Rattle.std.specs.List.{concat}
 use Rattle.std.specs.Char.{to_ascii_lowercase, is_ascii_digit}
+use Rattle.lsp_frame.specs.Limits.{LONGEST_HEAD, LONGEST_BODY}
 use Rattle.lsp_frame.specs.declared.head.Head.{Head}
 use Rattle.lsp_frame.specs.declared.head.Head.TheVariants.{Unended, Broken, Gives}
 use Rattle.lsp_frame.specs.Bodies.{Bodies, Ending, behind}
@@ -83,21 +84,21 @@ IsUnended bytes = BeginsHead bytes × IsNoHead bytes
 -- the first `at` bytes begin a head and aren't one, and no head begins with one byte more, or they are already 4,096
 abbrev pub BreaksAt : List ℕ → ℕ → Type 0
 BreaksAt bytes at =
-    IsUnended (take at bytes) × (at ≤ length bytes) × ((at ≡ 4096) ⊎ ((at < 4096) × (at < length bytes) × (BeginsHead (take (at + 1) bytes) → ⊥)))
+    IsUnended (take at bytes) × (at ≤ length bytes) × ((at ≡ LONGEST_HEAD) ⊎ ((at < LONGEST_HEAD) × (at < length bytes) × (BeginsHead (take (at + 1) bytes) → ⊥)))
 
 -- what is said of the front of some bytes: fewer than 4,096 that begin a head and aren't one; a break; or a head
 abbrev pub HeadSays : List ℕ → Head → Type 0
-HeadSays bytes Unended = IsUnended bytes × (length bytes < 4096)
+HeadSays bytes Unended = IsUnended bytes × (length bytes < LONGEST_HEAD)
 HeadSays bytes (Broken at) = BreaksAt bytes at
-HeadSays bytes (Gives n size) = IsHead (take size bytes) n × (size ≤ length bytes) × (size ≤ 4096)
+HeadSays bytes (Gives n size) = IsHead (take size bytes) n × (size ≤ length bytes) × (size ≤ LONGEST_HEAD)
 
 -- a frame: a head of at most 4,096 bytes, and a body of the length that it gives, at most 16,777,216 bytes
 pub record IsFrame (frame body : List ℕ) : Type 0 where
   pub head : List ℕ
   pub is_head : IsHead head (length body)
   pub is : frame ≡ head ++ body
-  pub short : length head ≤ 4096
-  pub within : length body ≤ 16777216
+  pub short : length head ≤ LONGEST_HEAD
+  pub within : length body ≤ LONGEST_BODY
 
 -- frames of these bodies, one behind the other
 abbrev pub IsFrames : List ℕ → List (List ℕ) → Type 0
@@ -112,7 +113,7 @@ pub record IsBodyShort (bytes : List ℕ) : Type 0 where
   pub is_head : IsHead head wanted
   pub is : bytes ≡ head ++ part
   pub short : length part < wanted
-  pub within : wanted ≤ 16777216
+  pub within : wanted ≤ LONGEST_BODY
 
 -- a head that gives a length past the limit, and what follows
 pub record IsPastLimit (bytes : List ℕ) (n : ℕ) : Type 0 where
@@ -120,13 +121,13 @@ pub record IsPastLimit (bytes : List ℕ) (n : ℕ) : Type 0 where
   pub later : List ℕ
   pub is_head : IsHead head n
   pub is : bytes ≡ head ++ later
-  pub short : length head ≤ 4096
-  pub past : 16777216 < n
+  pub short : length head ≤ LONGEST_HEAD
+  pub past : LONGEST_BODY < n
 
 -- how the bytes behind the last frame, which stand at this place, end
 abbrev pub EndSays : (rest : List ℕ) (at : ℕ) → Ending → Type 0
 EndSays rest at Closed = rest ≡ []
-EndSays rest at (Torn place) = (0 < length rest) × (place ≡ behind at (length rest)) × ((IsUnended rest × (length rest < 4096)) ⊎ IsBodyShort rest)
+EndSays rest at (Torn place) = (0 < length rest) × (place ≡ behind at (length rest)) × ((IsUnended rest × (length rest < LONGEST_HEAD)) ⊎ IsBodyShort rest)
 EndSays rest at (Malformed place) = (size : ℕ) × (place ≡ behind at size) × BreaksAt rest size
 EndSays rest at (PastLimit n) = IsPastLimit rest n
 
@@ -152,4 +153,4 @@ BeginsFrames bytes = (rest : List ℕ) × (bodies : List (List ℕ)) × AreFrame
 -- has come to its limit
 abbrev pub IsLeastBreak : (front rest : List ℕ) (size : ℕ) → Type 0
 IsLeastBreak front rest size =
-    BeginsFrames (front ++ take size rest) × ((size ≡ 4096) ⊎ (BeginsFrames (front ++ take (size + 1) rest) → ⊥))
+    BeginsFrames (front ++ take size rest) × ((size ≡ LONGEST_HEAD) ⊎ (BeginsFrames (front ++ take (size + 1) rest) → ⊥))

@@ -2,6 +2,7 @@
 use Rattle.std.specs.Prelude.{◌==◌, ◌&&◌, nat_lt, nat_le, ℕ, ◌+◌, ◌-◌, ◌*◌, ◌^◌, ◌<◌, ◌≤◌, List, [], ◌∷◌, slice_index, if◌then◌else◌, None, Some}
 use Rattle.std.specs.declared.option.Option.{Option}
 use Rattle.std.specs.Char.{to_ascii_lowercase, is_ascii_digit}
+use Rattle.lsp_frame.specs.Limits.{LONGEST_HEAD}
 use Rattle.lsp_frame.specs.declared.head.Scan.{Scan}
 use Rattle.lsp_frame.specs.declared.head.Scan.TheVariants.{Line, Name, Value, LineEnd, Before, Digits, Behind, HeadEnd, Done}
 use Rattle.lsp_frame.specs.declared.head.Head.{Head}
@@ -81,7 +82,7 @@ IsWithin (Done length) = Unit {0}
 
 -- what the bytes are that led here, of which there are `size`: a head of at most 4,096 bytes is read to its end
 abbrev pub unended_at : ℕ → Head
-unended_at size = if nat_le 4096 size then Broken size else Unended
+unended_at size = if nat_le LONGEST_HEAD size then Broken size else Unended
 
 abbrev pub head_at : ℕ → Scan → Head
 head_at size (Line length) = unended_at size

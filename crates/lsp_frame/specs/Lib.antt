@@ -1,4 +1,5 @@
 pub mod Bytes
+pub mod Limits
 pub mod Head
 pub mod First
 pub mod Bodies

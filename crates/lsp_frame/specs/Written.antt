@@ -3,6 +3,7 @@ use Rattle.std.specs.Prelude.{◌≡◌, ℕ, ◌+◌, ◌≤◌, List, [], ◌�
 use Rattle.std.specs.declared.option.Option.{Option}
 use Rattle.std.specs.Fmt.{decimal}
 use Rattle.std.specs.Io.KnownBytes.{Keeps}
+use Rattle.lsp_frame.specs.Limits.{LONGEST_BODY}
 use Rattle.srb_io.specs.Told.{AppendsPart}
 use Rattle.lsp_frame.specs.declared.writing.WriteEnd.{WriteEnd}
 use Rattle.lsp_frame.specs.declared.writing.WriteEnd.TheVariants.{Fault, NoMemory}
@@ -28,4 +29,4 @@ WritesShort NoMemory bytes old new before now = Keeps old new × (now ≡ before
 -- no body is longer than 16,777,216 bytes
 abbrev pub AreWithin : List (List ℕ) → Type 0
 AreWithin [] = ⊤
-AreWithin (body ∷ bodies) = (length body ≤ 16777216) × AreWithin bodies
+AreWithin (body ∷ bodies) = (length body ≤ LONGEST_BODY) × AreWithin bodies

@@ -3,6 +3,7 @@
 ghost use Rattle.std.specs.Prelude.{◌≡◌, ◌≤◌, length};
 ghost use Rattle.std.specs.Str.{IsUtf8};
 ghost use Rattle.rb_lex.specs.Lexed.{Gives, lexed};
+ghost use Rattle.srb_text.specs.Limits.{MOST_BYTES};
 
 use crate::LexEnd;
 use crate::chars::behind;
@@ -12,7 +13,7 @@ use std::alloc::Global;
 
 /// The tokens of the bytes of a text.
 pub fn lex_bytes(alloc: Global, text: &[u8]) -> Result<Vec<Token>, LexEnd>
-    requires small { length text.now ≤ 16777216 }
+    requires small { length text.now ≤ MOST_BYTES }
     requires text { IsUtf8 text.now }
     ensures { Gives (λ v. v.items) result (lexed text.now) }
 {

@@ -27,7 +27,7 @@ pub fn fresh_list<L: Ledger>(
     match bytes {
         Some(bytes) => {
             let file = load(alloc, bytes)?;
-            Ok(Items::from_vec(check_file(alloc, &World {}, &file, steps)?))
+            Ok(Items::from_vec(check_file(alloc, &World::new(alloc), &file, steps)?))
         }
         None => {
             steps.count();

@@ -2,7 +2,8 @@
 
 ghost use Rattle.std.specs.Prelude.{◌≡◌, ◌+◌, ◌<◌, ◌≤◌, true, not, length, None, is_some, IsTrue, IsFalse, IsNone, IsSome, IfOk, OnOk, OnErr};
 ghost use Rattle.std.specs.Option.{option_copied};
-ghost use Rattle.lsp_docs.specs.Documents.{MOST_BYTES, MOST_FILES, applied};
+ghost use Rattle.lsp_docs.specs.Documents.{MOST_FILES, applied};
+ghost use Rattle.srb_text.specs.Limits.{MOST_BYTES};
 ghost use Rattle.lsp_docs.specs.Projects.{paths_of, total_bytes};
 ghost use Rattle.lsp_docs.specs.Uris.{is_empty};
 ghost use Rattle.run_watch.specs.declared.inp.Inp.TheVariants as inp;
@@ -210,7 +211,7 @@ impl Core {
         self.rows.build();
         self.stale = false;
         Ok(Job {
-            world: World {},
+            world: World::new(alloc),
             paths,
         })
     }

@@ -1,5 +1,7 @@
 ghost use Rattle.std.specs.Prelude.{◌≡◌, ◌<◌, ◌≤◌, length, IfOk};
+ghost use Rattle.lsp_docs.specs.Documents.{MOST_FILES};
 ghost use Rattle.lsp_docs.specs.Projects.{total_bytes};
+ghost use Rattle.srb_text.specs.Limits.{MOST_BYTES};
 
 use crate::{Core, Landed};
 use lsp_msg::{Change, INVALID_REQUEST, Id, Msg, Out, Placed, Reason, SERVER_NOT_INITIALIZED};
@@ -16,8 +18,8 @@ const ONE: &str = "# typed: true\nT.reveal_type(1)\n";
 
 fn three_files(alloc: Global, text: &str) -> Result<Project, NoMemory>
     requires { length text.now ≤ 1000 }
-    ensures count { IfOk result (λ p. length p ≤ 4096) }
-    ensures bytes { IfOk result (λ p. total_bytes p ≤ 16777216) }
+    ensures count { IfOk result (λ p. length p ≤ MOST_FILES) }
+    ensures bytes { IfOk result (λ p. total_bytes p ≤ MOST_BYTES) }
 {
     let mut files = Project::new(alloc);
     files.put(

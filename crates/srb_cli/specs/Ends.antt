@@ -8,6 +8,7 @@ use Rattle.srb_terms.specs.declared.cause.Cause.{Cause}
 use Rattle.srb_terms.specs.declared.cause.Cause.TheVariants.{Done, Errors, NoShutdown, Usage, ReadFault, WriteFault, Broken, TooLong, TooMany, TooBig, NoMemory}
 use Rattle.srb_check.specs.Reports.{report_of}
 use Rattle.lsp_docs.specs.Projects.{Project}
+use Rattle.srb_text.specs.Limits.{MOST_BYTES}
 use Rattle.lsp_frame.specs.Bodies.{bodies_of}
 use Rattle.lsp_frame.specs.Bodies.Ending.{Closed}
 use Rattle.srb_cli.specs.Usage.{is_text, checked_folder, served_folder, usage_line}
@@ -16,10 +17,6 @@ use Rattle.srb_cli.specs.Folders.{IsFolder, IsWithin, IsUnread}
 use Rattle.srb_cli.specs.Served.{ServesWhole, ServesPart, ServesFront}
 
 -- ---- the command `text`
-
--- the most bytes of all texts together
-abbrev pub LARGEST_INPUT : ℕ
-LARGEST_INPUT = 16777216
 
 -- the path under which the command `text` checks what it reads
 abbrev pub TEXT_PATH : List ℕ
@@ -31,7 +28,7 @@ text_report bytes = report_of ((TEXT_PATH, bytes) ∷ [])
 
 -- the source was read to its end, and held no more than the limit
 abbrev pub ReadsAll : Course → Type 0
-ReadsAll c = IsAtEnd c.left_behind × IfSome c.left_before (λ bytes. length bytes ≤ LARGEST_INPUT)
+ReadsAll c = IsAtEnd c.left_behind × IfSome c.left_before (λ bytes. length bytes ≤ MOST_BYTES)
 
 -- how the command `text` ends, cause by cause: all others never come
 abbrev pub EndsText : Cause → Course → Type 0
@@ -39,7 +36,7 @@ EndsText Done c = ReadsAll c × IfSome c.left_before (λ bytes. text_report byte
 EndsText Errors c = ReadsAll c × IfSome c.left_before (λ bytes. (text_report bytes ≢ []) × Writes c (text_report bytes)) × NoReadFailed c × NoWriteFailed c
 EndsText ReadFault c = AReadFailed c × Writes c [] × NoWriteFailed c
 EndsText WriteFault c = ReadsAll c × IfSome c.left_before (λ bytes. WritesPart c (text_report bytes)) × NoReadFailed c × AWriteFailed c
-EndsText (TooBig path) c = (path ≡ TEXT_PATH) × IfSome c.left_before (λ bytes. LARGEST_INPUT < length bytes) × Writes c [] × NoReadFailed c × NoWriteFailed c
+EndsText (TooBig path) c = (path ≡ TEXT_PATH) × IfSome c.left_before (λ bytes. MOST_BYTES < length bytes) × Writes c [] × NoReadFailed c × NoWriteFailed c
 EndsText NoMemory c = Writes c [] × NoReadFailed c × NoWriteFailed c
 EndsText NoShutdown c = ⊥
 EndsText Usage c = ⊥
@@ -157,7 +154,7 @@ IsChecked (TooBig path) = ⊥
 -- were checked
 abbrev pub IsComplete : List (List ℕ) → Cause → Course → Type 0
 IsComplete words cause c =
-    IsTrue (is_text words) → (bytes : List ℕ) → c.left_before ≡ Some bytes → length bytes ≤ LARGEST_INPUT → NoReadFailed c → NoWriteFailed c → IsChecked cause
+    IsTrue (is_text words) → (bytes : List ℕ) → c.left_before ≡ Some bytes → length bytes ≤ MOST_BYTES → NoReadFailed c → NoWriteFailed c → IsChecked cause
 
 -- completeness of the command `tc DIR`: where the files are told and are no more than a project may have, and no count has
 -- risen, the project was checked

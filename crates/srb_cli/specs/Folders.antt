@@ -5,7 +5,8 @@ use Rattle.srb_io.specs.Files.{File, AreInOrder, AreListed, bytes_at}
 use Rattle.srb_terms.specs.declared.cause.Cause.{Cause}
 use Rattle.srb_terms.specs.declared.cause.Cause.TheVariants.{Done, Errors, NoShutdown, Usage, ReadFault, WriteFault, Broken, TooLong, TooMany, TooBig, NoMemory}
 use Rattle.lsp_docs.specs.Projects.{Project, paths_of, total_bytes}
-use Rattle.lsp_docs.specs.Documents.{MOST_FILES, MOST_BYTES}
+use Rattle.lsp_docs.specs.Documents.{MOST_FILES}
+use Rattle.srb_text.specs.Limits.{MOST_BYTES}
 
 -- the file is one of those told, with all its bytes
 abbrev pub IsTold : Option (List File) → File → Type 0

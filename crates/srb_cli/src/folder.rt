@@ -1,16 +1,14 @@
 ghost use Rattle.std.specs.Prelude.{◌≡◌, ◌-◌, ◌^◌, ◌<◌, ◌≤◌, IfOk, IfErr, length, map, string_bytes, vec_len};
+ghost use Rattle.lsp_docs.specs.Documents.{MOST_FILES};
+ghost use Rattle.srb_text.specs.Limits.{MOST_BYTES};
 ghost use Rattle.srb_io.specs.Files.{AreInOrder, AreListed};
 ghost use Rattle.srb_cli.specs.Folders.{IsFolder, IsWithin, IsUnread, IsTold, IsFileUnread};
 
+use lsp_docs::FILES_LIMIT;
 use srb_io::{Files, FilesEnd};
 use srb_terms::{Cause, Name, Project};
+use srb_text::BYTES_LIMIT;
 use std::alloc::Global;
-
-/// The most files of a project.
-const MOST_FILES: usize = 4096;
-
-/// The most bytes of all files of a project together.
-const MOST_BYTES: usize = 16_777_216;
 
 /// All bytes of the file at `path`, of which there may be `room`.
 fn read_file<F: Files>(
@@ -21,7 +19,7 @@ fn read_file<F: Files>(
     room: usize,
 ) -> Result<Vec<u8>, Cause>
     requires countable { F.faults files.old < 2 ^ 64 - 1 }
-    requires room { room ≤ 16777216 }
+    requires room { room ≤ MOST_BYTES }
     ensures told { F.told files.new ≡ F.told files.old }
     ensures there { IfOk result (λ bytes. IsTold (F.told files.old dir.now) (path.now, bytes.items)) }
     ensures within { IfOk result (λ bytes. vec_len bytes ≤ room) }
@@ -54,14 +52,14 @@ fn read_files<F: Files>(
     requires countable { F.faults files.old < 2 ^ 64 - 1 }
     requires ordered { AreInOrder (map string_bytes paths.now) }
     requires listed { AreListed (F.told files.old dir.now) (map string_bytes paths.now) }
-    requires few { length paths.now ≤ 4096 }
+    requires few { length paths.now ≤ MOST_FILES }
     ensures folder { IfOk result (λ project. IsFolder (F.told files.old dir.now) project) }
     ensures within { IfOk result (λ project. IsWithin project) }
     ensures unfailed { IfOk result (λ project. F.faults files.new ≡ F.faults files.old) }
     ensures unread { IfErr result (λ cause. IsUnread cause (F.told files.old dir.now) (F.faults files.old) (F.faults files.new)) }
 {
     let mut project = Project::new(alloc);
-    let mut room = MOST_BYTES;
+    let mut room = BYTES_LIMIT;
     'paths: for path in paths {
         let path = path.as_str();
         let bytes = match read_file(alloc, files, dir, path, room) {
@@ -92,7 +90,7 @@ pub fn read_folder<F: Files>(alloc: Global, files: &mut F, dir: &str) -> Result<
         Err(FilesEnd::Failed) => return Err(Cause::ReadFault),
         Err(FilesEnd::NoMemory) => return Err(Cause::NoMemory),
     };
-    if paths.len() > MOST_FILES {
+    if paths.len() > FILES_LIMIT {
         return Err(Cause::TooMany {
             files: paths.len() as u64,
         });

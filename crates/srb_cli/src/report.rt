@@ -23,7 +23,7 @@ fn push_file<L: Ledger>(
     ensures { OnOk result (report.new.items ≡ report.old.items ++ file_report path.now bytes.now (errors_of bytes.now)) }
 {
     let file = load(alloc, bytes)?;
-    let errors = check_file(alloc, &World {}, &file, steps)?;
+    let errors = check_file(alloc, &World::new(alloc), &file, steps)?;
     push_report(report, path, bytes, errors.as_slice())
 }
 

@@ -4,10 +4,8 @@ ghost use Rattle.srb_cli.specs.Ends.{EndsText, IsTooBig, text_report};
 use crate::report::{report, write_report};
 use srb_io::{ReadAllEnd, Sink, Source, read_all};
 use srb_terms::{Cause, Name, ProjectFile};
+use srb_text::BYTES_LIMIT;
 use std::alloc::{AllocError, Global};
-
-/// The most bytes of all texts together.
-const LARGEST_INPUT: usize = 16_777_216;
 
 /// The path under which the command checks what it reads.
 const TEXT_PATH: &str = "stdin.rb";
@@ -45,7 +43,7 @@ pub fn text<S: Source, K: Sink>(alloc: Global, source: &mut S, sink: &mut K) -> 
       writes_behind = K.faults sink.new;
     } }
 {
-    match read_all(alloc, source, LARGEST_INPUT) {
+    match read_all(alloc, source, BYTES_LIMIT) {
         Ok(bytes) => match text_report(alloc, bytes) {
             Ok(report) => write_report(sink, report.as_slice()),
             Err(_) => Cause::NoMemory,

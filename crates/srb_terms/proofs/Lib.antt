@@ -1,1 +1,2 @@
 pub mod ProjectOrder
+pub mod WorldNames

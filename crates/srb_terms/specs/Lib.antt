@@ -4,3 +4,4 @@ pub mod NameSets
 pub mod formers
 pub mod Projects
 pub mod Statuses
+pub mod Worlds

@@ -85,10 +85,16 @@ impl<T> Items<T> {
 
 impl<T: Drop> Items<T> {
     /// Adds `element` at the end. Without memory the list stays as it was, and the element is dropped.
+    ///
+    /// A list without room takes room for as many more as it has, at least for one: so a list of one element has room for no other.
     pub fn push(&mut self, element: T) -> Result<(), NoMemory>
         ensures ok { OnOk result (self.new ≡ self.old ++ element ∷ []) }
         ensures err { OnErr result (self.new ≡ self.old) }
     {
+        let len = self.elements.len();
+        if len == self.elements.capacity() {
+            self.elements.reserve_exact(len.max(1))?;
+        }
         self.elements.push(element)?;
         Ok(())
     }

@@ -59,6 +59,15 @@ impl Name {
         Ok(Name { text })
     }
 
+    /// The words that spell the name, without a copy of its bytes.
+    pub fn to_words(&self) -> Result<Words, NoMemory>
+        ensures { IfOk result (λ w. w ≡ self.now) }
+    {
+        Ok(Words {
+            text: self.text.clone()?,
+        })
+    }
+
     /// The name as a text.
     pub fn as_str(&self) -> &str
         ensures text { result.now ≡ self.now }

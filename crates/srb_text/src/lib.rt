@@ -10,6 +10,7 @@ ghost use Rattle.std.specs.Prelude.{◌≡◌, ◌+◌, ◌<◌, ◌≤◌, leng
 ghost use Rattle.std.specs.Str.{IsUtf8, all_scalars, chars, encode_utf8_all};
 ghost use Rattle.srb_text.specs.Edits.{edited, IsEditFault};
 ghost use Rattle.srb_text.specs.Faults.{IsTextFault};
+ghost use Rattle.srb_text.specs.Limits.{MOST_BYTES};
 ghost use Rattle.srb_text.specs.Positions.{byte_len, len_utf16, offset_of, position_of, IsStart};
 
 pub mod laws;
@@ -19,6 +20,9 @@ mod units;
 
 use std::alloc::{AllocError, Global};
 use std::marker::Model;
+
+/// The most bytes that all texts of a project have together, so also the most bytes of one text.
+pub const BYTES_LIMIT: usize = 16_777_216;
 
 /// A place in a text: the number of a line, and in it a number of UTF-16 units. Both begin at 0.
 #[derive(Clone, Copy, Debug, PartialEq, Eq)]
@@ -54,19 +58,20 @@ impl Model for Text {
     ghost use Rattle.std.specs.Prelude.{◌≡◌, ℕ, ◌≤◌, List, length};
     ghost use Rattle.std.specs.Str.{chars};
     ghost use Rattle.std.specs.String.{string_bytes};
+    ghost use Rattle.srb_text.specs.Limits.{MOST_BYTES};
     ghost use Rattle.srb_text.specs.LineStarts.{line_starts};
 
     ghost Value = { List ℕ };
 
     ghost view = { λ t. chars (string_bytes t.text) };
 
-    ghost invariant = { λ t. (t.starts.items ≡ line_starts (string_bytes t.text)) × (length (string_bytes t.text) ≤ 16777216) };
+    ghost invariant = { λ t. (t.starts.items ≡ line_starts (string_bytes t.text)) × (length (string_bytes t.text) ≤ MOST_BYTES) };
 }
 
 impl Text {
     /// The text that the bytes spell.
     pub fn from_bytes(alloc: Global, bytes: &[u8]) -> Result<Text, TextFault>
-        requires { length bytes.now ≤ 16777216 }
+        requires { length bytes.now ≤ MOST_BYTES }
         ensures { MatchResult result (λ t. IsUtf8 bytes.now × (t ≡ chars bytes.now)) (IsTextFault bytes.now) }
     {
         match std::str::from_utf8(bytes) {
@@ -85,7 +90,7 @@ impl Text {
         ensures bytes { result.now ≡ encode_utf8_all self.now }
         ensures scalars { all_scalars self.now ≡ true }
         ensures len { length result.now ≡ byte_len self.now }
-        ensures small { length result.now ≤ 16777216 }
+        ensures small { length result.now ≤ MOST_BYTES }
     {
         self.text.as_str()
     }
@@ -109,7 +114,7 @@ impl Text {
 
     /// Puts `new` in the place of what stands between two positions. After an error the text is as it was.
     pub fn splice(&mut self, alloc: Global, from: Pos, to: Pos, new: &str) -> Result<(), EditFault>
-        requires { offset_of len_utf16 self.old from ≤ offset_of len_utf16 self.old to → byte_len (edited len_utf16 self.old from to (chars new.now)) ≤ 16777216 }
+        requires { offset_of len_utf16 self.old from ≤ offset_of len_utf16 self.old to → byte_len (edited len_utf16 self.old from to (chars new.now)) ≤ MOST_BYTES }
         ensures edited { OnOk result (self.new ≡ edited len_utf16 self.old from to (chars new.now)) }
         ensures ordered { OnOk result (offset_of len_utf16 self.old from ≤ offset_of len_utf16 self.old to) }
         ensures fault { IfErr result (IsEditFault (offset_of len_utf16 self.old from) (offset_of len_utf16 self.old to)) }
@@ -143,7 +148,7 @@ impl Text {
 }
 
 fn made(alloc: Global, text: &str) -> Result<Text, AllocError>
-    requires { length text.now ≤ 16777216 }
+    requires { length text.now ≤ MOST_BYTES }
     ensures { IfOk result (λ t. t ≡ chars text.now) }
 {
     let starts = table::built(alloc, text.as_bytes())?;

@@ -70,6 +70,13 @@ fn lists_and_boxes(rt: HostRuntime) -> Result<(), NoMemory> {
     assert!(rt; numbers.get(1) == Some(&2) && numbers.get(2) == None);
     assert!(rt; !numbers.is_empty() && numbers.len() == 2);
     assert!(rt; numbers.into_vec().as_slice() == [9u8, 2].as_slice());
+    for (count, room) in [(0, 0), (1, 1), (2, 2), (3, 4), (4, 4), (5, 8)] {
+        let mut zeros = Items::new(alloc);
+        for _ in 0..count {
+            zeros.push(0u8)?;
+        }
+        assert_eq!(rt; zeros.into_vec().capacity(), room);
+    }
     let boxed = Boxed::new(alloc, 7u8)?;
     let copy = boxed.copied()?;
     assert!(rt; *boxed.get() == 7 && boxed.into_inner() == None);

@@ -2,7 +2,7 @@ use Rattle.std.proofs.Common.{◌≤◌, length, sym, ap, ◌∙◌, subst, arit
 use Rattle.std.specs.Prelude.{Ok, Err}
 use Rattle.std.specs.Str.{chars}
 use Rattle.lsp_docs.specs.declared.doc_end.DocEnd.TheVariants.{TooBig}
-use Rattle.lsp_docs.specs.Documents.{MOST_BYTES}
+use Rattle.srb_text.specs.Limits.{MOST_BYTES}
 use Rattle.lsp_docs.specs.Changes.{sized_text, sum_with}
 use Rattle.lsp_docs.proofs.ApplyLemmas.{err_is}
 use Rattle.lsp_docs.proofs.TextLemmas.{if_err_map, on_ok_map, plain_change, range_change, sized_big, sized_ok}

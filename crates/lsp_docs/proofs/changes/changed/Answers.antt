@@ -1,6 +1,6 @@
 use Rattle.std.proofs.Common.{◌+◌, ◌≤◌, drop, sym, ap, ◌∙◌, subst}
 use Rattle.std.specs.Str.{chars}
-use Rattle.lsp_docs.specs.Documents.{MOST_BYTES}
+use Rattle.srb_text.specs.Limits.{MOST_BYTES}
 use Rattle.lsp_docs.specs.Changes.{after_changes, sum_with}
 use Rattle.lsp_docs.proofs.RowsHold.{drop_next}
 use Rattle.lsp_docs.proofs.TextLemmas.{spelled_back, next_change}

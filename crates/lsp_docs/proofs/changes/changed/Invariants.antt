@@ -1,5 +1,6 @@
 use Rattle.std.proofs.Common.{◌≡◌, ◌≤◌, drop}
-use Rattle.lsp_docs.specs.Documents.{Agreed, MOST_BYTES}
+use Rattle.lsp_docs.specs.Documents.{Agreed}
+use Rattle.srb_text.specs.Limits.{MOST_BYTES}
 use Rattle.lsp_docs.specs.Changes.{after_changes, sum_with}
 use Rattle.lsp_docs.proofs.changes.changed.Given as goal
 

@@ -8,7 +8,7 @@ use Rattle.srb_text.proofs.SpellingLemmas.{length-encodes}
 use Rattle.srb_text.proofs.TransferLemmas.{start_within}
 use Rattle.lsp_docs.specs.declared.doc_end.DocEnd.TheVariants.{TooBig}
 use Rattle.lsp_docs.specs.Changes.{sized_text, sum_with}
-use Rattle.lsp_docs.specs.Documents.{MOST_BYTES}
+use Rattle.srb_text.specs.Limits.{MOST_BYTES}
 use Rattle.lsp_docs.proofs.TextLemmas.{between_ok, range_sum, sized_big, sized_ok}
 use Rattle.lsp_docs.proofs.changes.replace.Goals as goal
 

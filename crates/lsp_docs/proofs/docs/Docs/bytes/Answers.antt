@@ -1,6 +1,7 @@
 use Rattle.std.proofs.Common.{sym, ap, ◌∙◌, arith}
 use Rattle.srb_terms.specs.Projects.{bytes_at}
-use Rattle.lsp_docs.specs.Documents.{Documents, MOST_BYTES}
+use Rattle.lsp_docs.specs.Documents.{Documents}
+use Rattle.srb_text.specs.Limits.{MOST_BYTES}
 use Rattle.lsp_docs.specs.Rows.{present_of, project_of}
 use Rattle.lsp_docs.proofs.RowLemmas.{size_within}
 use Rattle.lsp_docs.proofs.RowsHold.{bytes_here, bytes_absent, read_row}
