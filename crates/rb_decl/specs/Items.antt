@@ -1,14 +1,13 @@
 -- The statements of a program and of the body of a class or module: declarations, and the other statements.
-use Rattle.std.specs.Prelude.{ℕ, zero, suc, ◌-◌, Bool, true, false, not, if◌then◌else◌, List, [], ◌∷◌, ◌++◌, length, slice_get, Option, Some, None, is_some, Ok, Err}
-use Rattle.srb_terms.specs.declared.span.Span.{Span}
+use Rattle.std.specs.Prelude.{ℕ, zero, suc, ◌-◌, Bool, true, false, if◌then◌else◌, List, [], ◌∷◌, ◌++◌, length, slice_get, Option, Some, None, is_some, Ok}
 use Rattle.rb_tree.specs.Tokens.{same_shape}
 use Rattle.rb_tree.specs.Trees.{span_of}
 use Rattle.rb_tree.specs.declared.syntax.Tree.{Tree}
-use Rattle.rb_tree.specs.declared.syntax.Tree.TheVariants as tree
+use Rattle.rb_tree.specs.Nodes as tree
 use Rattle.rb_tree.specs.declared.token.Token.{Token}
 use Rattle.rb_tree.specs.declared.token.Shape.{Shape}
 use Rattle.rb_tree.specs.declared.token.Shape.TheVariants as shape
-use Rattle.rb_expr.specs.Reading.{Outcome, Parser, ◌>>=◌, ◌>>◌, pure, refuse, peek, sees, expect, skip_separators}
+use Rattle.rb_expr.specs.Reading.{Parser, ◌>>=◌, pure, refuse, peek, sees, expect, skip_separators}
 use Rattle.rb_expr.specs.Rules.{statement}
 use Rattle.rb_decl.specs.Names.{path, superclass}
 use Rattle.rb_decl.specs.Methods.{visibility, method}

@@ -1,11 +1,11 @@
 -- Methods: `def`, perhaps `self.`, a name, parameters, a body with what guards it, and `end`, and perhaps a visibility in front.
-use Rattle.std.specs.Prelude.{◌≡◌, ℕ, Bool, true, false, ◌==◌, if◌then◌else◌, List, [], ◌∷◌, ◌++◌, length, Option, Some, None, is_some, Ok, Err, codes}
+use Rattle.std.specs.Prelude.{ℕ, Bool, true, false, ◌==◌, if◌then◌else◌, List, [], ◌∷◌, ◌++◌, length, Option, Some, None, is_some, Ok, Err, codes}
 use Rattle.std.specs.Str.{bytes_eq}
 use Rattle.srb_terms.specs.declared.span.Span.{Span}
 use Rattle.rb_tree.specs.Tokens.{shape_of}
 use Rattle.rb_tree.specs.declared.syntax.Guarded.{Guarded}
 use Rattle.rb_tree.specs.declared.syntax.Tree.{Tree}
-use Rattle.rb_tree.specs.declared.syntax.Tree.TheVariants as tree
+use Rattle.rb_tree.specs.Nodes as tree
 use Rattle.rb_tree.specs.declared.syntax.PlacedName.{PlacedName}
 use Rattle.rb_tree.specs.declared.syntax.Visibility.{Visibility}
 use Rattle.rb_tree.specs.declared.syntax.Visibility.TheVariants as visible
@@ -14,7 +14,7 @@ use Rattle.rb_tree.specs.declared.token.TokenKind.{TokenKind}
 use Rattle.rb_tree.specs.declared.token.TokenKind.TheVariants as kind
 use Rattle.rb_tree.specs.declared.token.Shape.{Shape}
 use Rattle.rb_tree.specs.declared.token.Shape.TheVariants as shape
-use Rattle.rb_expr.specs.Reading.{Outcome, Parser, ◌>>=◌, ◌>>◌, pure, refuse, sees, after, expect}
+use Rattle.rb_expr.specs.Reading.{Outcome, Parser, ◌>>=◌, pure, sees, after, expect}
 use Rattle.rb_expr.specs.Rules.{guarded}
 use Rattle.rb_decl.specs.Parameters.{parameters_of}
 use Rattle.rb_decl.specs.declared.method.Head.{Head}

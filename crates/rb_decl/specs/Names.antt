@@ -7,7 +7,7 @@ use Rattle.rb_tree.specs.declared.token.Token.{Token}
 use Rattle.rb_tree.specs.declared.token.TokenKind.{TokenKind}
 use Rattle.rb_tree.specs.declared.token.TokenKind.TheVariants as kind
 use Rattle.rb_tree.specs.declared.token.Shape.TheVariants as shape
-use Rattle.rb_expr.specs.Reading.{Outcome, Parser, ◌>>=◌, ◌>>◌, pure, refuse, sees, after, expect}
+use Rattle.rb_expr.specs.Reading.{Outcome, Parser, ◌>>=◌, pure, refuse, sees, after, expect}
 
 abbrev constant_as : Token → List Token → TokenKind → Outcome PlacedName
 constant_as t ts (kind.Constant words) = Ok (record { name = words; span = t.span }, ts)

@@ -1,5 +1,5 @@
 -- The parameters of a method. Required ones come before optional ones, then keywords, then a block, and no name stands twice.
-use Rattle.std.specs.Prelude.{◌≡◌, ℕ, zero, suc, Bool, true, false, not, ◌&&◌, ◌||◌, if◌then◌else◌, List, [], ◌∷◌, ◌++◌, Option, Some, None, Ok, Err}
+use Rattle.std.specs.Prelude.{ℕ, zero, suc, Bool, true, false, not, ◌||◌, if◌then◌else◌, List, [], ◌∷◌, ◌++◌, Option, Some, None, Ok, Err}
 use Rattle.std.specs.Str.{bytes_eq}
 use Rattle.std.specs.List.{list_any}
 use Rattle.srb_terms.specs.declared.param_kind.ParamKind.{ParamKind}
@@ -11,7 +11,7 @@ use Rattle.rb_tree.specs.declared.token.Token.{Token}
 use Rattle.rb_tree.specs.declared.token.TokenKind.{TokenKind}
 use Rattle.rb_tree.specs.declared.token.TokenKind.TheVariants as kind
 use Rattle.rb_tree.specs.declared.token.Shape.TheVariants as shape
-use Rattle.rb_expr.specs.Reading.{Outcome, Parser, ◌>>=◌, ◌>>◌, pure, refuse, sees, after, expect, skip_separators}
+use Rattle.rb_expr.specs.Reading.{Outcome, Parser, ◌>>=◌, pure, refuse, sees, after, expect, skip_separators}
 use Rattle.rb_expr.specs.Rules.{tern}
 use Rattle.rb_decl.specs.declared.parameter.Stage.{Stage}
 use Rattle.rb_decl.specs.declared.parameter.Stage.TheVariants as stages

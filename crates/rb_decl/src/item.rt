@@ -9,7 +9,7 @@ use crate::method::{method, visibility};
 use crate::name::{path, superclass};
 use rb_expr::reading::{Read, Stop, expect, peek, sees, skip_separators};
 use rb_expr::rules::statement;
-use rb_tree::syntax::{PlacedName, Reference, Tree};
+use rb_tree::syntax::{Node, PlacedName, Reference, Tree};
 use rb_tree::token::{Shape, Token};
 use srb_terms::{Boxed, Items, NoMemory, Span};
 use std::alloc::Global;
@@ -106,37 +106,37 @@ fn namespace_head<'a>(
 }
 
 /// Where a statement begins.
-fn start_at(tree: Option<&Boxed<Tree>>) -> u32
+fn start_at(tree: Option<&Tree>) -> u32
     ensures { result ≡ spec.start_at (option_copied tree.entry) }
 {
     match tree {
-        Some(tree) => tree.get().span().start,
+        Some(tree) => tree.span().start,
         None => 0,
     }
 }
 
 /// Where a statement ends.
-fn end_at(tree: Option<&Boxed<Tree>>) -> u32
+fn end_at(tree: Option<&Tree>) -> u32
     ensures { result ≡ spec.end_at (option_copied tree.entry) }
 {
     match tree {
-        Some(tree) => tree.get().span().end,
+        Some(tree) => tree.span().end,
         None => 0,
     }
 }
 
 /// The body of these statements.
-pub fn body_of(alloc: Global, statements: Items<Boxed<Tree>>) -> Result<Boxed<Tree>, NoMemory>
+pub fn body_of(alloc: Global, statements: Items<Tree>) -> Result<Tree, NoMemory>
     ensures { IfOk result (λ t. t ≡ spec.body_of statements) }
 {
     let span = Span {
         start: start_at(statements.get(0)),
         end: end_at(statements.get(statements.len().saturating_sub(1))),
     };
-    Boxed::new(alloc, Tree::Body { statements, span })
+    Tree::new(alloc, Node::Body { statements, span })
 }
 
-fn tree_of(alloc: Global, head: Head, body: Boxed<Tree>, end: u32) -> Result<Boxed<Tree>, NoMemory>
+fn tree_of(alloc: Global, head: Head, body: Tree, end: u32) -> Result<Tree, NoMemory>
     ensures { IfOk result (λ t. t ≡ spec.tree_of head body end) }
 {
     match head {
@@ -144,18 +144,18 @@ fn tree_of(alloc: Global, head: Head, body: Boxed<Tree>, end: u32) -> Result<Box
             start,
             path,
             superclass,
-        } => Boxed::new(
+        } => Tree::new(
             alloc,
-            Tree::Class {
+            Node::Class {
                 path,
                 superclass,
                 body,
                 span: Span { start, end },
             },
         ),
-        Head::Module { start, path } => Boxed::new(
+        Head::Module { start, path } => Tree::new(
             alloc,
-            Tree::Module {
+            Node::Module {
                 path,
                 body,
                 span: Span { start, end },
@@ -177,12 +177,7 @@ fn ends(tokens: &[Token]) -> bool
 /// A class or module.
 #[cycle(items)]
 #[tactic(auto, unfolding(crate::specs::Items::namespace))]
-fn namespace<'a>(
-    alloc: Global,
-    depth: usize,
-    long: bool,
-    tokens: &'a [Token],
-) -> Read<'a, Boxed<Tree>>
+fn namespace<'a>(alloc: Global, depth: usize, long: bool, tokens: &'a [Token]) -> Read<'a, Tree>
     ensures { Gives (λ x. (x.0, x.1.now)) result (spec.namespace (spec.item depth false) depth long tokens.now) }
 {
     let (head, rest) = namespace_head(alloc, depth, long, tokens)?;
@@ -195,7 +190,7 @@ fn namespace<'a>(
 /// A declaration or another statement. A class or module may have a path for its name where `long` says so.
 #[cycle(items)]
 #[tactic(auto, unfolding(crate::specs::Items::item))]
-fn item<'a>(alloc: Global, depth: usize, long: bool, tokens: &'a [Token]) -> Read<'a, Boxed<Tree>>
+fn item<'a>(alloc: Global, depth: usize, long: bool, tokens: &'a [Token]) -> Read<'a, Tree>
     ensures { Gives (λ x. (x.0, x.1.now)) result (spec.item depth long tokens.now) }
 {
     if depth == 0 {
@@ -215,7 +210,7 @@ pub fn statements<'a>(
     depth: usize,
     long: bool,
     tokens: &'a [Token],
-) -> Read<'a, Items<Boxed<Tree>>>
+) -> Read<'a, Items<Tree>>
     ensures { Gives (λ x. (x.0, x.1.now)) result (spec.statements (spec.item depth long) depth tokens.now) }
 {
     let mut found = Items::new(alloc);

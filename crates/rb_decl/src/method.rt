@@ -7,7 +7,7 @@ ghost use Rattle.rb_decl.specs.Methods as spec;
 use crate::parameter::parameters;
 use rb_expr::reading::{Read, Stop, after, expect, sees};
 use rb_expr::rules::guarded;
-use rb_tree::syntax::{Guarded, Parameter, PlacedName, Tree, Visibility};
+use rb_tree::syntax::{Guarded, Node, Parameter, PlacedName, Tree, Visibility};
 use rb_tree::token::{Shape, Token, TokenKind};
 use srb_terms::{Boxed, Items, Name, NoMemory, Span, Words};
 use std::alloc::Global;
@@ -177,7 +177,7 @@ pub struct Head {
     pub start: u32,
     pub own: bool,
     pub name: PlacedName,
-    pub parameters: Items<Parameter<Boxed<Tree>>>,
+    pub parameters: Items<Parameter<Tree>>,
 }
 
 /// The head of a method from its `def` on.
@@ -208,18 +208,18 @@ fn method_head<'a>(
 fn tree_of(
     alloc: Global,
     head: Head,
-    guarded: Boxed<Guarded<Boxed<Tree>>>,
+    guarded: Boxed<Guarded<Tree>>,
     end: u32,
-) -> Result<Boxed<Tree>, NoMemory>
+) -> Result<Tree, NoMemory>
     ensures { IfOk result (λ t. t ≡ spec.tree_of head guarded end) }
 {
     let span = Span {
         start: head.start,
         end,
     };
-    Boxed::new(
+    Tree::new(
         alloc,
-        Tree::Def {
+        Node::Def {
             visibility: head.visibility,
             own: head.own,
             name: head.name.name,
@@ -239,7 +239,7 @@ fn defined<'a>(
     visibility: Option<Visibility>,
     start: u32,
     tokens: &'a [Token],
-) -> Read<'a, Boxed<Tree>>
+) -> Read<'a, Tree>
     ensures { Gives (λ x. (x.0, x.1.now)) result (spec.defined depth visibility start tokens.now) }
 {
     let (head, rest) = method_head(alloc, depth, visibility, start, tokens)?;
@@ -260,7 +260,7 @@ fn start_of(tokens: &[Token]) -> u32
 
 /// A method, perhaps with a visibility in front.
 #[tactic(auto, unfolding(crate::specs::Methods::method))]
-pub fn method<'a>(alloc: Global, depth: usize, tokens: &'a [Token]) -> Read<'a, Boxed<Tree>>
+pub fn method<'a>(alloc: Global, depth: usize, tokens: &'a [Token]) -> Read<'a, Tree>
     ensures { Gives (λ x. (x.0, x.1.now)) result (spec.method depth tokens.now) }
 {
     let visibility = visibility(tokens);

@@ -9,7 +9,7 @@ use rb_expr::reading::{Read, Stop, after, expect, sees, skip_separators};
 use rb_expr::rules::tern;
 use rb_tree::syntax::{Parameter, Tree};
 use rb_tree::token::{Shape, Token, TokenKind};
-use srb_terms::{Boxed, Items, Name, NoMemory, ParamKind, Span, Words};
+use srb_terms::{Items, Name, NoMemory, ParamKind, Span, Words};
 use std::alloc::Global;
 
 /// Which parameters may still come.
@@ -91,12 +91,7 @@ fn is_last(stage: Stage) -> bool
     }
 }
 
-fn parameter_of(
-    kind: ParamKind,
-    name: Name,
-    span: Span,
-    default: Option<Boxed<Tree>>,
-) -> Parameter<Boxed<Tree>>
+fn parameter_of(kind: ParamKind, name: Name, span: Span, default: Option<Tree>) -> Parameter<Tree>
     ensures { result ≡ spec.parameter_of kind name span default }
 {
     Parameter {
@@ -116,7 +111,7 @@ fn plain<'a>(
     name: Name,
     span: Span,
     tokens: &'a [Token],
-) -> Read<'a, Parameter<Boxed<Tree>>>
+) -> Read<'a, Parameter<Tree>>
     ensures { Gives (λ x. (x.0, x.1.now)) result (spec.plain depth stage name span tokens.now) }
 {
     if sees(Shape::Assign, tokens) {
@@ -147,7 +142,7 @@ fn keyword<'a>(
     name: Name,
     span: Span,
     tokens: &'a [Token],
-) -> Read<'a, Parameter<Boxed<Tree>>>
+) -> Read<'a, Parameter<Tree>>
     ensures { Gives (λ x. (x.0, x.1.now)) result (spec.keyword depth name span tokens.now) }
 {
     if has_no_default(tokens) {
@@ -162,7 +157,7 @@ fn keyword<'a>(
 
 /// Behind the `&` of a block.
 #[tactic(auto, unfolding(crate::specs::Parameters::block))]
-fn block<'a>(names: &IndexSet<Name>, tokens: &'a [Token]) -> Read<'a, Parameter<Boxed<Tree>>>
+fn block<'a>(names: &IndexSet<Name>, tokens: &'a [Token]) -> Read<'a, Parameter<Tree>>
     ensures { Gives (λ x. (x.0, x.1.now)) result (spec.block names.now.keys tokens.now) }
 {
     match tokens {
@@ -188,7 +183,7 @@ fn parameter<'a>(
     stage: Stage,
     names: &IndexSet<Name>,
     tokens: &'a [Token],
-) -> Read<'a, Parameter<Boxed<Tree>>>
+) -> Read<'a, Parameter<Tree>>
     ensures { Gives (λ x. (x.0, x.1.now)) result (spec.parameter depth stage names.now.keys tokens.now) }
 {
     match tokens {
@@ -247,7 +242,7 @@ pub fn row<'a>(
     depth: usize,
     in_brackets: bool,
     tokens: &'a [Token],
-) -> Read<'a, Items<Parameter<Boxed<Tree>>>>
+) -> Read<'a, Items<Parameter<Tree>>>
     ensures { Gives (λ x. (x.0, x.1.now)) result (spec.row depth in_brackets tokens.now) }
 {
     let mut found = Items::new(alloc);
@@ -273,7 +268,7 @@ fn bracketed<'a>(
     alloc: Global,
     depth: usize,
     tokens: &'a [Token],
-) -> Read<'a, Items<Parameter<Boxed<Tree>>>>
+) -> Read<'a, Items<Parameter<Tree>>>
     ensures { Gives (λ x. (x.0, x.1.now)) result (spec.bracketed depth tokens.now) }
 {
     if sees(Shape::CloseParen, tokens) {
@@ -286,11 +281,7 @@ fn bracketed<'a>(
 
 /// Parameters without brackets.
 #[tactic(auto, unfolding(crate::specs::Parameters::bare))]
-fn bare<'a>(
-    alloc: Global,
-    depth: usize,
-    tokens: &'a [Token],
-) -> Read<'a, Items<Parameter<Boxed<Tree>>>>
+fn bare<'a>(alloc: Global, depth: usize, tokens: &'a [Token]) -> Read<'a, Items<Parameter<Tree>>>
     ensures { Gives (λ x. (x.0, x.1.now)) result (spec.bare depth tokens.now) }
 {
     if sees(Shape::Separator, tokens) {
@@ -309,7 +300,7 @@ pub fn parameters<'a>(
     alloc: Global,
     depth: usize,
     tokens: &'a [Token],
-) -> Read<'a, Items<Parameter<Boxed<Tree>>>>
+) -> Read<'a, Items<Parameter<Tree>>>
     ensures { Gives (λ x. (x.0, x.1.now)) result (spec.parameters_of depth tokens.now) }
 {
     if sees(Shape::OpenParen, tokens) {

@@ -10,12 +10,11 @@ use rb_expr::reading::Stop;
 use rb_tree::syntax::Tree;
 use rb_tree::token::Token;
 use rb_weight::first_too_deep;
-use srb_terms::Boxed;
 use std::alloc::Global;
 
 /// A program that takes all of the tokens.
 #[tactic(auto, unfolding(crate::specs::Programs::program))]
-fn program<'a>(alloc: Global, depth: usize, tokens: &'a [Token]) -> Result<Boxed<Tree>, Stop<'a>>
+fn program<'a>(alloc: Global, depth: usize, tokens: &'a [Token]) -> Result<Tree, Stop<'a>>
     ensures { spec.Reads result (spec.program depth tokens.now) }
 {
     let (statements, rest) = statements(alloc, depth, true, tokens)?;
@@ -45,23 +44,13 @@ fn place_of(tokens: &[Token], rest: &[Token]) -> u32
     }
 }
 
-/// The answer of a tree that nothing shares.
-fn unboxed(tree: Boxed<Tree>) -> Result<Tree, ParseEnd>
-    ensures { spec.Parses result (Ok tree) }
-{
-    match tree.into_inner() {
-        Some(tree) => Ok(tree),
-        None => Err(ParseEnd::NoMemory),
-    }
-}
-
 /// The tree of tokens that nowhere nest too deep.
 #[tactic(auto, unfolding(crate::specs::Programs::whole))]
 fn whole(alloc: Global, tokens: &[Token]) -> Result<Tree, ParseEnd>
     ensures { spec.Parses result (spec.whole tokens.now) }
 {
     match program(alloc, tokens.len() + 2, tokens) {
-        Ok(tree) => unboxed(tree),
+        Ok(tree) => Ok(tree),
         Err(Stop::Refused(rest)) => Err(ParseEnd::Bad {
             at: place_of(tokens, rest),
         }),

@@ -1,5 +1,5 @@
 -- All forms together.
-use Rattle.std.specs.Prelude.{◌≡◌, ℕ, zero, suc, Bool, false, List, Result}
+use Rattle.std.specs.Prelude.{ℕ, zero, suc, Bool, false, List, Result}
 use Rattle.std.specs.declared.alloc.Global.{Global}
 use denote.Ref.{Bor}
 use Rattle.rb_tree.specs.declared.syntax.Tree.{Tree}

@@ -1,5 +1,5 @@
 -- What stands between and behind the elements of lists, and what their kinds say.
-use Rattle.std.specs.Prelude.{ℕ, ◌-◌, Bool, true, false, not, ◌&&◌, ◌||◌, if◌then◌else◌, bytes_eq, List, [], ◌∷◌, ◌++◌, length, slice_get, Option, Some, None, Ok, Err}
+use Rattle.std.specs.Prelude.{ℕ, ◌-◌, Bool, true, false, not, ◌&&◌, if◌then◌else◌, bytes_eq, List, [], ◌∷◌, ◌++◌, length, slice_get, Option, Some, None, Ok, Err}
 use Rattle.std.specs.List.{list_any}
 use Rattle.srb_terms.specs.declared.span.Span.{Span}
 use Rattle.rb_tree.specs.Tokens.{same_shape}
@@ -16,7 +16,7 @@ use Rattle.rb_tree.specs.declared.token.Shape.{Shape}
 use Rattle.rb_tree.specs.declared.token.Shape.TheVariants as shape
 use Rattle.rb_expr.specs.declared.lists.Order.{Order}
 use Rattle.rb_expr.specs.declared.lists.Order.TheVariants as order
-use Rattle.rb_expr.specs.Reading.{Parser, ◌>>=◌, ◌<$>◌, pure, sees, after, skip_separators, expect, named}
+use Rattle.rb_expr.specs.Reading.{Parser, ◌>>=◌, ◌<$>◌, sees, after, skip_separators, expect, named}
 
 -- ---- arguments, suffixes and blocks
 

@@ -1,7 +1,7 @@
 -- What the shape of a token says: which forms it begins, and which operator it is.
 use Rattle.std.specs.Prelude.{ℕ, ◌-◌, Bool, true, false, not, ◌&&◌, ◌||◌, ◌==◌, nat_le, if◌then◌else◌, List, [], ◌∷◌, length, slice_get, Option, Some, None, is_some}
 use Rattle.srb_terms.specs.declared.span.Span.{Span}
-use Rattle.rb_tree.specs.Tokens.{shape_of, same_shape}
+use Rattle.rb_tree.specs.Tokens.{shape_of}
 use Rattle.rb_tree.specs.declared.syntax.Binary.{Binary}
 use Rattle.rb_tree.specs.declared.syntax.Binary.TheVariants as binary
 use Rattle.rb_tree.specs.declared.syntax.Jump.{Jump}

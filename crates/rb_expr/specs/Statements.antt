@@ -2,7 +2,6 @@
 use Rattle.std.specs.Prelude.{ℕ, zero, suc, ◌-◌, Bool, true, false, not, ◌&&◌, ◌||◌, if◌then◌else◌, List, [], ◌∷◌, ◌++◌, length, slice_get, Option, Some, None, Ok}
 use Rattle.srb_terms.specs.declared.span.Span.{Span}
 use Rattle.rb_tree.specs.Trees.{span_of}
-use Rattle.rb_tree.specs.declared.syntax.Argument.{Argument}
 use Rattle.rb_tree.specs.declared.syntax.Binary.{Binary}
 use Rattle.rb_tree.specs.declared.syntax.Dot.TheVariants as dot
 use Rattle.rb_tree.specs.declared.syntax.Jump.{Jump}
@@ -10,9 +9,10 @@ use Rattle.rb_tree.specs.declared.syntax.Modifier.{Modifier}
 use Rattle.rb_tree.specs.declared.syntax.Modifier.TheVariants as modifier
 use Rattle.rb_tree.specs.declared.syntax.Suffix.{Suffix}
 use Rattle.rb_tree.specs.declared.syntax.Suffix.TheVariants as suffix
-use Rattle.rb_tree.specs.declared.syntax.Tree.{Tree, out-Tree}
-use Rattle.rb_tree.specs.declared.syntax.Tree.TheOpen.{Tree-F}
-use Rattle.rb_tree.specs.declared.syntax.Tree.TheVariants as tree
+use Rattle.rb_tree.specs.declared.syntax.Tree.{Tree}
+use Rattle.rb_tree.specs.declared.syntax.Node.{out-Node}
+use Rattle.rb_tree.specs.declared.syntax.Node.TheOpen.{Node-F}
+use Rattle.rb_tree.specs.Nodes as tree
 use Rattle.rb_tree.specs.declared.token.Token.{Token}
 use Rattle.rb_tree.specs.declared.token.Shape.{Shape}
 use Rattle.rb_tree.specs.declared.token.Shape.TheVariants as shape
@@ -25,7 +25,7 @@ use Rattle.rb_expr.specs.declared.form.Form.TheVariants as form
 use Rattle.rb_expr.specs.Calls.{bare, command_block}
 use Rattle.rb_expr.specs.Lists.{end_with}
 use Rattle.rb_expr.specs.Operands.{post}
-use Rattle.rb_expr.specs.Operators.{across, from_to, tern, tern_behind}
+use Rattle.rb_expr.specs.Operators.{across, tern, tern_behind}
 use Rattle.rb_expr.specs.Reading.{Parser, ◌>>=◌, ◌>>◌, ◌<$>◌, pure, refuse, peek, sees, start_of, skip_separators, take_token, expect}
 use Rattle.rb_expr.specs.Shapes.{begins_bare, begins_statement, has_value, has_prefix, jump_of, modifier_of, assigning_of, next_is}
 
@@ -42,18 +42,18 @@ abbrev pub ending_of_last : {T : Type 0} → Option (Suffix T) → Ending
 ending_of_last None = ending.Other
 ending_of_last (Some last) = ending_of_suffix last
 
-abbrev pub ending_at : {X : Type 0} → Tree-F X → Ending
-ending_at (Tree-F.Name name span) = ending.Name
-ending_at (Tree-F.InstanceVariable name span) = ending.Target
-ending_at (Tree-F.Constant name span) = ending.Constant
-ending_at (Tree-F.Yield None span) = ending.Callee
-ending_at (Tree-F.Super None span) = ending.Callee
-ending_at (Tree-F.Post receiver suffixes span) = ending_of_last (slice_get suffixes (length suffixes - 1))
+abbrev pub ending_at : {X Y : Type 0} → Node-F X Y → Ending
+ending_at (Node-F.Name name span) = ending.Name
+ending_at (Node-F.InstanceVariable name span) = ending.Target
+ending_at (Node-F.Constant name span) = ending.Constant
+ending_at (Node-F.Yield None span) = ending.Callee
+ending_at (Node-F.Super None span) = ending.Callee
+ending_at (Node-F.Post receiver suffixes span) = ending_of_last (slice_get suffixes (length suffixes - 1))
 ending_at _ = ending.Other
 
 -- how an operand ends
 unfoldable pub ending_of : Tree → Ending
-ending_of operand = ending_at (out-Tree operand)
+ending_of operand = ending_at (out-Node operand.node)
 
 -- what may be assigned to; a constant by `=` alone, and only where the flag allows it
 abbrev pub is_target : Ending → Bool
@@ -91,12 +91,12 @@ unfoldable pub follower_of : Bool → Ending → Option Shape → Follower
 follower_of constants end next = follower_by constants end next
 
 -- what a modifier may not make a loop of: a `begin` with its `end` alone
-abbrev pub is_begin_at : {X : Type 0} → Tree-F X → Bool
-is_begin_at (Tree-F.Begin guarded span) = true
+abbrev pub is_begin_at : {X Y : Type 0} → Node-F X Y → Bool
+is_begin_at (Node-F.Begin guarded span) = true
 is_begin_at _ = false
 
 unfoldable pub is_begin : Tree → Bool
-is_begin inner = is_begin_at (out-Tree inner)
+is_begin inner = is_begin_at (out-Node inner.node)
 
 -- the modifier makes a loop
 abbrev pub repeats : Modifier → Bool

@@ -12,7 +12,7 @@ use crate::rules::{longest_body, tern};
 use rb_tree::syntax::Tree;
 use rb_tree::token::Token;
 use rb_weight::first_too_deep;
-use srb_terms::{Boxed, NoMemory};
+use srb_terms::NoMemory;
 use std::alloc::Global;
 
 /// The form that is read.
@@ -26,7 +26,7 @@ pub enum Rule {
 
 /// Reads the form at the first of these tokens.
 #[tactic(auto, unfolding(crate::specs::Answers::ruled))]
-fn ruled<'a>(alloc: Global, rule: Rule, tokens: &'a [Token]) -> Read<'a, Boxed<Tree>>
+fn ruled<'a>(alloc: Global, rule: Rule, tokens: &'a [Token]) -> Read<'a, Tree>
     ensures { Gives (λ x. (x.0, x.1.now)) result (spec.ruled rule tokens.now) }
 {
     let depth = tokens.len() + 2;
@@ -83,16 +83,6 @@ fn bad_at(tokens: &[Token], rest: &[Token]) -> u32
     }
 }
 
-/// The answer of a tree that nothing shares, and the place behind it.
-fn unboxed(tree: Boxed<Tree>, place: usize) -> Result<(Tree, usize), ParseEnd>
-    ensures { Answers result (Ok (tree, place)) }
-{
-    match tree.into_inner() {
-        Some(tree) => Ok((tree, place)),
-        None => Err(ParseEnd::NoMemory),
-    }
-}
-
 /// The answer where no token is too deep.
 #[tactic(auto, unfolding(crate::specs::Answers::whole))]
 fn whole(
@@ -105,7 +95,7 @@ fn whole(
     ensures { Answers result (spec.whole rule tokens.now from) }
 {
     match ruled(alloc, rule, &tokens[from..]) {
-        Ok((tree, rest)) => unboxed(tree, tokens.len().saturating_sub(rest.len())),
+        Ok((tree, rest)) => Ok((tree, tokens.len().saturating_sub(rest.len()))),
         Err(Stop::Memory) => Err(ParseEnd::NoMemory),
         Err(Stop::Refused(rest)) => Err(ParseEnd::Bad {
             at: bad_at(tokens, rest),
@@ -131,7 +121,7 @@ fn cut(
     };
     match ruled(alloc, rule, &tokens[from..deep + 1]) {
         Ok((_, [])) => Err(too_deep),
-        Ok((tree, rest)) => unboxed(tree, (deep + 1).saturating_sub(rest.len())),
+        Ok((tree, rest)) => Ok((tree, (deep + 1).saturating_sub(rest.len()))),
         Err(Stop::Memory) => Err(ParseEnd::NoMemory),
         Err(Stop::Refused([])) => Err(too_deep),
         Err(Stop::Refused([first, ..])) => Err(ParseEnd::Bad {

@@ -8,7 +8,7 @@ ghost use Rattle.rb_expr.specs.Reading.{Gives};
 use crate::form::Form;
 use crate::grammar::Grammar;
 use crate::reading::{Read, Stop, after, expect, named, sees, skip_separators, take};
-use rb_tree::syntax::{Arm, Guarded, PlacedName, Rescue, Test, Tree, When};
+use rb_tree::syntax::{Arm, Guarded, Node, PlacedName, Rescue, Test, Tree, When};
 use rb_tree::token::{Shape, Token};
 use srb_terms::{Boxed, Items, Span};
 use std::alloc::Global;
@@ -68,12 +68,10 @@ fn rescue_variable<'a>(alloc: Global, tokens: &'a [Token]) -> Read<'a, Option<Pl
     Ok((Some(variable), rest))
 }
 
-impl<
-    F: Fn(Global, usize, Form, bool, &[Token]) -> Result<(Boxed<Tree>, &[Token]), Stop<'_>>,
-> Grammar<F> {
+impl<F: Fn(Global, usize, Form, bool, &[Token]) -> Result<(Tree, &[Token]), Stop<'_>>> Grammar<F> {
     /// `else` and a body, if they come next.
     #[tactic(auto, unfolding(crate::specs::Branches::otherwise))]
-    fn otherwise<'a>(&self, tokens: &'a [Token]) -> Read<'a, Option<Boxed<Tree>>>
+    fn otherwise<'a>(&self, tokens: &'a [Token]) -> Read<'a, Option<Tree>>
         requires { Nests self.now.depth (F.pre self.now.nested) (F.post self.now.nested) }
         ensures { Gives (λ x. (x.0, x.1.now)) result (branches.otherwise (parsed self.now.depth) self.now.depth self.now.takes_do tokens.now) }
     {
@@ -85,7 +83,7 @@ impl<
     }
 
     #[tactic(auto, unfolding(crate::specs::Branches::elsif_arm))]
-    fn elsif_arm<'a>(&self, tokens: &'a [Token]) -> Read<'a, Arm<Boxed<Tree>>>
+    fn elsif_arm<'a>(&self, tokens: &'a [Token]) -> Read<'a, Arm<Tree>>
         requires { Nests self.now.depth (F.pre self.now.nested) (F.post self.now.nested) }
         ensures { Gives (λ x. (x.0, x.1.now)) result (branches.elsif_arm (parsed self.now.depth) self.now.depth self.now.takes_do tokens.now) }
     {
@@ -96,7 +94,7 @@ impl<
         Ok((Arm { condition, body }, rest))
     }
 
-    fn elsif_arms<'a>(&self, tokens: &'a [Token]) -> Read<'a, Items<Arm<Boxed<Tree>>>>
+    fn elsif_arms<'a>(&self, tokens: &'a [Token]) -> Read<'a, Items<Arm<Tree>>>
         requires { Nests self.now.depth (F.pre self.now.nested) (F.post self.now.nested) }
         ensures { Gives (λ x. (x.0, x.1.now)) result (branches.elsif_arms (parsed self.now.depth) self.now.depth self.now.takes_do tokens.now) }
     {
@@ -115,7 +113,7 @@ impl<
 
     /// The `elsif` arms. An `unless` has none.
     #[tactic(auto, unfolding(crate::specs::Branches::arms_of))]
-    fn arms_of<'a>(&self, test: Test, tokens: &'a [Token]) -> Read<'a, Items<Arm<Boxed<Tree>>>>
+    fn arms_of<'a>(&self, test: Test, tokens: &'a [Token]) -> Read<'a, Items<Arm<Tree>>>
         requires { Nests self.now.depth (F.pre self.now.nested) (F.post self.now.nested) }
         ensures { Gives (λ x. (x.0, x.1.now)) result (branches.arms_of (parsed self.now.depth) self.now.depth self.now.takes_do test tokens.now) }
     {
@@ -127,7 +125,7 @@ impl<
 
     /// `if` or `unless`, from that word on.
     #[tactic(auto, unfolding(crate::specs::Branches::branch))]
-    pub fn branch<'a>(&self, test: Test, tokens: &'a [Token]) -> Read<'a, Boxed<Tree>>
+    pub fn branch<'a>(&self, test: Test, tokens: &'a [Token]) -> Read<'a, Tree>
         requires { Nests self.now.depth (F.pre self.now.nested) (F.post self.now.nested) }
         ensures { Gives (λ x. (x.0, x.1.now)) result (branches.branch (parsed self.now.depth) self.now.depth self.now.takes_do test tokens.now) }
     {
@@ -142,7 +140,7 @@ impl<
             start: mark.start,
             end: closing.end,
         };
-        let tree = Tree::If {
+        let node = Node::If {
             test,
             condition,
             body,
@@ -150,12 +148,12 @@ impl<
             otherwise,
             span,
         };
-        Ok((Boxed::new(self.alloc, tree)?, rest))
+        Ok((Tree::new(self.alloc, node)?, rest))
     }
 
     /// `while` or `until`, from that word on. Its condition takes no `do`.
     #[tactic(auto, unfolding(crate::specs::Branches::repeated))]
-    pub fn repeated<'a>(&self, test: Test, tokens: &'a [Token]) -> Read<'a, Boxed<Tree>>
+    pub fn repeated<'a>(&self, test: Test, tokens: &'a [Token]) -> Read<'a, Tree>
         requires { Nests self.now.depth (F.pre self.now.nested) (F.post self.now.nested) }
         ensures { Gives (λ x. (x.0, x.1.now)) result (branches.repeated (parsed self.now.depth) self.now.depth self.now.takes_do test tokens.now) }
     {
@@ -168,18 +166,18 @@ impl<
             start: mark.start,
             end: closing.end,
         };
-        let tree = Tree::While {
+        let node = Node::While {
             test,
             condition,
             body,
             span,
         };
-        Ok((Boxed::new(self.alloc, tree)?, rest))
+        Ok((Tree::new(self.alloc, node)?, rest))
     }
 
     /// What a `case` asks about, if it names that.
     #[tactic(auto, unfolding(crate::specs::Branches::subject))]
-    fn subject<'a>(&self, tokens: &'a [Token]) -> Read<'a, Option<Boxed<Tree>>>
+    fn subject<'a>(&self, tokens: &'a [Token]) -> Read<'a, Option<Tree>>
         requires { Nests self.now.depth (F.pre self.now.nested) (F.post self.now.nested) }
         ensures { Gives (λ x. (x.0, x.1.now)) result (branches.subject (parsed self.now.depth) self.now.depth self.now.takes_do tokens.now) }
     {
@@ -190,7 +188,7 @@ impl<
         Ok((Some(subject), rest))
     }
 
-    fn patterns<'a>(&self, tokens: &'a [Token]) -> Read<'a, Items<Boxed<Tree>>>
+    fn patterns<'a>(&self, tokens: &'a [Token]) -> Read<'a, Items<Tree>>
         requires { Nests self.now.depth (F.pre self.now.nested) (F.post self.now.nested) }
         ensures { Gives (λ x. (x.0, x.1.now)) result (branches.patterns (parsed self.now.depth) self.now.depth self.now.takes_do tokens.now) }
     {
@@ -208,7 +206,7 @@ impl<
     }
 
     #[tactic(auto, unfolding(crate::specs::Branches::when_arm))]
-    fn when_arm<'a>(&self, tokens: &'a [Token]) -> Read<'a, When<Boxed<Tree>>>
+    fn when_arm<'a>(&self, tokens: &'a [Token]) -> Read<'a, When<Tree>>
         requires { Nests self.now.depth (F.pre self.now.nested) (F.post self.now.nested) }
         ensures { Gives (λ x. (x.0, x.1.now)) result (branches.when_arm (parsed self.now.depth) self.now.depth self.now.takes_do tokens.now) }
     {
@@ -220,7 +218,7 @@ impl<
     }
 
     /// The arms of a `case`, at least one.
-    fn when_arms<'a>(&self, tokens: &'a [Token]) -> Read<'a, Items<When<Boxed<Tree>>>>
+    fn when_arms<'a>(&self, tokens: &'a [Token]) -> Read<'a, Items<When<Tree>>>
         requires { Nests self.now.depth (F.pre self.now.nested) (F.post self.now.nested) }
         ensures { Gives (λ x. (x.0, x.1.now)) result (branches.when_arms (parsed self.now.depth) self.now.depth self.now.takes_do tokens.now) }
     {
@@ -239,7 +237,7 @@ impl<
 
     /// `case`, from that word on.
     #[tactic(auto, unfolding(crate::specs::Branches::choice))]
-    pub fn choice<'a>(&self, tokens: &'a [Token]) -> Read<'a, Boxed<Tree>>
+    pub fn choice<'a>(&self, tokens: &'a [Token]) -> Read<'a, Tree>
         requires { Nests self.now.depth (F.pre self.now.nested) (F.post self.now.nested) }
         ensures { Gives (λ x. (x.0, x.1.now)) result (branches.choice (parsed self.now.depth) self.now.depth self.now.takes_do tokens.now) }
     {
@@ -252,17 +250,17 @@ impl<
             start: mark.start,
             end: closing.end,
         };
-        let tree = Tree::Case {
+        let node = Node::Case {
             subject,
             arms,
             otherwise,
             span,
         };
-        Ok((Boxed::new(self.alloc, tree)?, rest))
+        Ok((Tree::new(self.alloc, node)?, rest))
     }
     /// What a `rescue` rescues, if it is told.
     #[tactic(auto, unfolding(crate::specs::Branches::raised))]
-    fn raised<'a>(&self, tokens: &'a [Token]) -> Read<'a, Items<Boxed<Tree>>>
+    fn raised<'a>(&self, tokens: &'a [Token]) -> Read<'a, Items<Tree>>
         requires { Nests self.now.depth (F.pre self.now.nested) (F.post self.now.nested) }
         ensures { Gives (λ x. (x.0, x.1.now)) result (branches.raised (parsed self.now.depth) self.now.depth self.now.takes_do tokens.now) }
     {
@@ -274,7 +272,7 @@ impl<
     }
 
     #[tactic(auto, unfolding(crate::specs::Branches::rescue_clause))]
-    fn rescue_clause<'a>(&self, tokens: &'a [Token]) -> Read<'a, Rescue<Boxed<Tree>>>
+    fn rescue_clause<'a>(&self, tokens: &'a [Token]) -> Read<'a, Rescue<Tree>>
         requires { Nests self.now.depth (F.pre self.now.nested) (F.post self.now.nested) }
         ensures { Gives (λ x. (x.0, x.1.now)) result (branches.rescue_clause (parsed self.now.depth) self.now.depth self.now.takes_do tokens.now) }
     {
@@ -291,7 +289,7 @@ impl<
         Ok((clause, rest))
     }
 
-    fn rescues<'a>(&self, tokens: &'a [Token]) -> Read<'a, Items<Rescue<Boxed<Tree>>>>
+    fn rescues<'a>(&self, tokens: &'a [Token]) -> Read<'a, Items<Rescue<Tree>>>
         requires { Nests self.now.depth (F.pre self.now.nested) (F.post self.now.nested) }
         ensures { Gives (λ x. (x.0, x.1.now)) result (branches.rescues (parsed self.now.depth) self.now.depth self.now.takes_do tokens.now) }
     {
@@ -312,9 +310,9 @@ impl<
     #[tactic(auto, unfolding(crate::specs::Branches::otherwise_behind))]
     fn otherwise_behind<'a>(
         &self,
-        rescues: &Items<Rescue<Boxed<Tree>>>,
+        rescues: &Items<Rescue<Tree>>,
         tokens: &'a [Token],
-    ) -> Read<'a, Option<Boxed<Tree>>>
+    ) -> Read<'a, Option<Tree>>
         requires { Nests self.now.depth (F.pre self.now.nested) (F.post self.now.nested) }
         ensures { Gives (λ x. (x.0, x.1.now)) result (branches.otherwise_behind (parsed self.now.depth) self.now.depth self.now.takes_do rescues.now tokens.now) }
     {
@@ -326,7 +324,7 @@ impl<
 
     /// `ensure` and a body, if they come next.
     #[tactic(auto, unfolding(crate::specs::Branches::ensure))]
-    fn ensure<'a>(&self, tokens: &'a [Token]) -> Read<'a, Option<Boxed<Tree>>>
+    fn ensure<'a>(&self, tokens: &'a [Token]) -> Read<'a, Option<Tree>>
         requires { Nests self.now.depth (F.pre self.now.nested) (F.post self.now.nested) }
         ensures { Gives (λ x. (x.0, x.1.now)) result (branches.ensure (parsed self.now.depth) self.now.depth self.now.takes_do tokens.now) }
     {
@@ -339,7 +337,7 @@ impl<
 
     /// A body and what guards it.
     #[tactic(auto, unfolding(crate::specs::Branches::guarded))]
-    pub fn guarded<'a>(&self, tokens: &'a [Token]) -> Read<'a, Boxed<Guarded<Boxed<Tree>>>>
+    pub fn guarded<'a>(&self, tokens: &'a [Token]) -> Read<'a, Boxed<Guarded<Tree>>>
         requires { Nests self.now.depth (F.pre self.now.nested) (F.post self.now.nested) }
         ensures { Gives (λ x. (x.0, x.1.now)) result (branches.guarded (parsed self.now.depth) self.now.depth self.now.takes_do tokens.now) }
     {
@@ -358,7 +356,7 @@ impl<
 
     /// `begin`, from that word on.
     #[tactic(auto, unfolding(crate::specs::Branches::guards))]
-    pub fn guards<'a>(&self, tokens: &'a [Token]) -> Read<'a, Boxed<Tree>>
+    pub fn guards<'a>(&self, tokens: &'a [Token]) -> Read<'a, Tree>
         requires { Nests self.now.depth (F.pre self.now.nested) (F.post self.now.nested) }
         ensures { Gives (λ x. (x.0, x.1.now)) result (branches.guards (parsed self.now.depth) self.now.depth self.now.takes_do tokens.now) }
     {
@@ -369,6 +367,6 @@ impl<
             start: mark.start,
             end: closing.end,
         };
-        Ok((Boxed::new(self.alloc, Tree::Begin { guarded, span })?, rest))
+        Ok((Tree::new(self.alloc, Node::Begin { guarded, span })?, rest))
     }
 }

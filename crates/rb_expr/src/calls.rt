@@ -19,12 +19,10 @@ use rb_tree::token::{Shape, Token};
 use srb_terms::{Boxed, Items, Span};
 use std::alloc::Global;
 
-impl<
-    F: Fn(Global, usize, Form, bool, &[Token]) -> Result<(Boxed<Tree>, &[Token]), Stop<'_>>,
-> Grammar<F> {
+impl<F: Fn(Global, usize, Form, bool, &[Token]) -> Result<(Tree, &[Token]), Stop<'_>>> Grammar<F> {
     /// `name: value`.
     #[tactic(auto, unfolding(crate::specs::Calls::keyword))]
-    fn keyword<'a>(&self, takes: bool, tokens: &'a [Token]) -> Read<'a, Argument<Boxed<Tree>>>
+    fn keyword<'a>(&self, takes: bool, tokens: &'a [Token]) -> Read<'a, Argument<Tree>>
         requires { Nests self.now.depth (F.pre self.now.nested) (F.post self.now.nested) }
         ensures { Gives (λ x. (x.0, x.1.now)) result (calls.keyword (parsed self.now.depth) self.now.depth self.now.takes_do takes tokens.now) }
     {
@@ -36,7 +34,7 @@ impl<
 
     /// `&value`.
     #[tactic(auto, unfolding(crate::specs::Calls::passed_block))]
-    fn passed_block<'a>(&self, takes: bool, tokens: &'a [Token]) -> Read<'a, Argument<Boxed<Tree>>>
+    fn passed_block<'a>(&self, takes: bool, tokens: &'a [Token]) -> Read<'a, Argument<Tree>>
         requires { Nests self.now.depth (F.pre self.now.nested) (F.post self.now.nested) }
         ensures { Gives (λ x. (x.0, x.1.now)) result (calls.passed_block (parsed self.now.depth) self.now.depth self.now.takes_do takes tokens.now) }
     {
@@ -47,7 +45,7 @@ impl<
 
     /// An argument by its place.
     #[tactic(auto, unfolding(crate::specs::Calls::positional))]
-    fn positional<'a>(&self, takes: bool, tokens: &'a [Token]) -> Read<'a, Argument<Boxed<Tree>>>
+    fn positional<'a>(&self, takes: bool, tokens: &'a [Token]) -> Read<'a, Argument<Tree>>
         requires { Nests self.now.depth (F.pre self.now.nested) (F.post self.now.nested) }
         ensures { Gives (λ x. (x.0, x.1.now)) result (calls.positional (parsed self.now.depth) self.now.depth self.now.takes_do takes tokens.now) }
     {
@@ -62,7 +60,7 @@ impl<
         keywords: bool,
         takes: bool,
         tokens: &'a [Token],
-    ) -> Read<'a, Argument<Boxed<Tree>>>
+    ) -> Read<'a, Argument<Tree>>
         requires { Nests self.now.depth (F.pre self.now.nested) (F.post self.now.nested) }
         ensures { Gives (λ x. (x.0, x.1.now)) result (calls.one_argument (parsed self.now.depth) self.now.depth self.now.takes_do keywords takes tokens.now) }
     {
@@ -84,7 +82,7 @@ impl<
         &self,
         closer: Shape,
         tokens: &'a [Token],
-    ) -> Read<'a, (Items<Argument<Boxed<Tree>>>, Span)>
+    ) -> Read<'a, (Items<Argument<Tree>>, Span)>
         requires { Nests self.now.depth (F.pre self.now.nested) (F.post self.now.nested) }
         ensures { Gives (λ x. (x.0, x.1.now)) result (calls.listed (parsed self.now.depth) self.now.depth self.now.takes_do closer tokens.now) }
     {
@@ -107,7 +105,7 @@ impl<
 
     /// What stands behind the `(` of arguments.
     #[tactic(auto, unfolding(crate::specs::Calls::in_brackets))]
-    fn in_brackets<'a>(&self, tokens: &'a [Token]) -> Read<'a, (Items<Argument<Boxed<Tree>>>, Span)>
+    fn in_brackets<'a>(&self, tokens: &'a [Token]) -> Read<'a, (Items<Argument<Tree>>, Span)>
         requires { Nests self.now.depth (F.pre self.now.nested) (F.post self.now.nested) }
         ensures { Gives (λ x. (x.0, x.1.now)) result (calls.in_brackets (parsed self.now.depth) self.now.depth self.now.takes_do tokens.now) }
     {
@@ -120,7 +118,7 @@ impl<
 
     /// Arguments in brackets, and the closing one.
     #[tactic(auto, unfolding(crate::specs::Calls::brackets))]
-    fn brackets<'a>(&self, tokens: &'a [Token]) -> Read<'a, (Items<Argument<Boxed<Tree>>>, Span)>
+    fn brackets<'a>(&self, tokens: &'a [Token]) -> Read<'a, (Items<Argument<Tree>>, Span)>
         requires { Nests self.now.depth (F.pre self.now.nested) (F.post self.now.nested) }
         ensures { Gives (λ x. (x.0, x.1.now)) result (calls.brackets (parsed self.now.depth) self.now.depth self.now.takes_do tokens.now) }
     {
@@ -133,7 +131,7 @@ impl<
     pub fn index_arguments<'a>(
         &self,
         tokens: &'a [Token],
-    ) -> Read<'a, (Items<Argument<Boxed<Tree>>>, Span)>
+    ) -> Read<'a, (Items<Argument<Tree>>, Span)>
         requires { Nests self.now.depth (F.pre self.now.nested) (F.post self.now.nested) }
         ensures { Gives (λ x. (x.0, x.1.now)) result (calls.index_arguments (parsed self.now.depth) self.now.depth self.now.takes_do tokens.now) }
     {
@@ -146,7 +144,7 @@ impl<
         &self,
         end: u32,
         tokens: &'a [Token],
-    ) -> Read<'a, (Option<Items<Argument<Boxed<Tree>>>>, u32)>
+    ) -> Read<'a, (Option<Items<Argument<Tree>>>, u32)>
         requires { Nests self.now.depth (F.pre self.now.nested) (F.post self.now.nested) }
         ensures { Gives (λ x. (x.0, x.1.now)) result (calls.optional_brackets (parsed self.now.depth) self.now.depth self.now.takes_do end tokens.now) }
     {
@@ -158,7 +156,7 @@ impl<
     }
 
     /// The arguments of a call without brackets, and where they end.
-    pub fn bare<'a>(&self, tokens: &'a [Token]) -> Read<'a, (Items<Argument<Boxed<Tree>>>, u32)>
+    pub fn bare<'a>(&self, tokens: &'a [Token]) -> Read<'a, (Items<Argument<Tree>>, u32)>
         requires { Nests self.now.depth (F.pre self.now.nested) (F.post self.now.nested) }
         ensures { Gives (λ x. (x.0, x.1.now)) result (calls.bare (parsed self.now.depth) self.now.depth self.now.takes_do tokens.now) }
     {
@@ -221,7 +219,7 @@ impl<
         opener: Shape,
         closer: Shape,
         tokens: &'a [Token],
-    ) -> Read<'a, Boxed<Block<Boxed<Tree>>>>
+    ) -> Read<'a, Boxed<Block<Tree>>>
         requires { Nests self.now.depth (F.pre self.now.nested) (F.post self.now.nested) }
         ensures { Gives (λ x. (x.0, x.1.now)) result (calls.block (parsed self.now.depth) self.now.depth self.now.takes_do opener closer tokens.now) }
     {
@@ -243,7 +241,7 @@ impl<
 
     /// `do`, a body and `end`, if they come next and may be taken here.
     #[tactic(auto, unfolding(crate::specs::Calls::optional_do))]
-    fn optional_do<'a>(&self, tokens: &'a [Token]) -> Read<'a, Option<Boxed<Block<Boxed<Tree>>>>>
+    fn optional_do<'a>(&self, tokens: &'a [Token]) -> Read<'a, Option<Boxed<Block<Tree>>>>
         requires { Nests self.now.depth (F.pre self.now.nested) (F.post self.now.nested) }
         ensures { Gives (λ x. (x.0, x.1.now)) result (calls.optional_do (parsed self.now.depth) self.now.depth self.now.takes_do tokens.now) }
     {
@@ -257,7 +255,7 @@ impl<
 
     /// A block, if one comes next and may be taken here.
     #[tactic(auto, unfolding(crate::specs::Calls::any_block))]
-    fn any_block<'a>(&self, tokens: &'a [Token]) -> Read<'a, Option<Boxed<Block<Boxed<Tree>>>>>
+    fn any_block<'a>(&self, tokens: &'a [Token]) -> Read<'a, Option<Boxed<Block<Tree>>>>
         requires { Nests self.now.depth (F.pre self.now.nested) (F.post self.now.nested) }
         ensures { Gives (λ x. (x.0, x.1.now)) result (calls.any_block (parsed self.now.depth) self.now.depth self.now.takes_do tokens.now) }
     {
@@ -273,9 +271,9 @@ impl<
     #[tactic(auto, unfolding(crate::specs::Calls::optional_block))]
     pub fn optional_block<'a>(
         &self,
-        arguments: &Option<Items<Argument<Boxed<Tree>>>>,
+        arguments: &Option<Items<Argument<Tree>>>,
         tokens: &'a [Token],
-    ) -> Read<'a, Option<Boxed<Block<Boxed<Tree>>>>>
+    ) -> Read<'a, Option<Boxed<Block<Tree>>>>
         requires { Nests self.now.depth (F.pre self.now.nested) (F.post self.now.nested) }
         ensures { Gives (λ x. (x.0, x.1.now)) result (calls.optional_block (parsed self.now.depth) self.now.depth self.now.takes_do arguments.now tokens.now) }
     {
@@ -289,9 +287,9 @@ impl<
     #[tactic(auto, unfolding(crate::specs::Calls::command_block))]
     pub fn command_block<'a>(
         &self,
-        arguments: &[Argument<Boxed<Tree>>],
+        arguments: &[Argument<Tree>],
         tokens: &'a [Token],
-    ) -> Read<'a, Option<Boxed<Block<Boxed<Tree>>>>>
+    ) -> Read<'a, Option<Boxed<Block<Tree>>>>
         requires { Nests self.now.depth (F.pre self.now.nested) (F.post self.now.nested) }
         ensures { Gives (λ x. (x.0, x.1.now)) result (calls.command_block (parsed self.now.depth) self.now.depth self.now.takes_do arguments.now tokens.now) }
     {

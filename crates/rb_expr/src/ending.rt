@@ -5,7 +5,7 @@ ghost use Rattle.rb_expr.specs.Shapes.{assigning_of};
 ghost use Rattle.rb_expr.specs.Statements as spec;
 
 use crate::shapes::{assigning_of, begins_bare, modifier_of};
-use rb_tree::syntax::{Binary, Dot, Modifier, Suffix, Tree};
+use rb_tree::syntax::{Binary, Dot, Modifier, Node, Suffix, Tree};
 use rb_tree::token::Shape;
 
 /// How an operand ends.
@@ -71,19 +71,19 @@ fn ending_of_last<T>(suffixes: &[Suffix<T>]) -> Ending
 pub fn ending_of(operand: &Tree) -> Ending
     ensures { result ≡ spec.ending_of operand.now }
 {
-    match operand {
-        Tree::Name { .. } => Ending::Name,
-        Tree::InstanceVariable { .. } => Ending::Target,
-        Tree::Constant { .. } => Ending::Constant,
-        Tree::Yield {
+    match operand.get() {
+        Node::Name { .. } => Ending::Name,
+        Node::InstanceVariable { .. } => Ending::Target,
+        Node::Constant { .. } => Ending::Constant,
+        Node::Yield {
             arguments: None,
             ..
         } => Ending::Callee,
-        Tree::Super {
+        Node::Super {
             arguments: None,
             ..
         } => Ending::Callee,
-        Tree::Post { suffixes, .. } => ending_of_last(suffixes.as_slice()),
+        Node::Post { suffixes, .. } => ending_of_last(suffixes.as_slice()),
         _ => Ending::Other,
     }
 }
@@ -171,8 +171,8 @@ pub fn follower_of(constants: bool, ending: Ending, next: Option<Shape>) -> Foll
 fn is_begin(statement: &Tree) -> bool
     ensures { result ≡ spec.is_begin statement.now }
 {
-    match statement {
-        Tree::Begin { .. } => true,
+    match statement.get() {
+        Node::Begin { .. } => true,
         _ => false,
     }
 }

@@ -10,7 +10,6 @@ use crate::form::Form;
 use crate::reading::{Read, Stop};
 use rb_tree::syntax::Tree;
 use rb_tree::token::Token;
-use srb_terms::Boxed;
 use std::alloc::Global;
 
 /// What the rules of the grammar share.
@@ -32,7 +31,7 @@ pub fn nested<'a>(
     form: Form,
     takes_do: bool,
     tokens: &'a [Token],
-) -> Read<'a, Boxed<Tree>>
+) -> Read<'a, Tree>
     ensures { Gives (λ x. (x.0, x.1.now)) result (parsed depth form takes_do tokens.now) }
 {
     if depth == 0 {
@@ -47,18 +46,16 @@ pub fn nested<'a>(
     .by_form(form, tokens)
 }
 
-impl<
-    F: Fn(Global, usize, Form, bool, &[Token]) -> Result<(Boxed<Tree>, &[Token]), Stop<'_>>,
-> Grammar<F> {
+impl<F: Fn(Global, usize, Form, bool, &[Token]) -> Result<(Tree, &[Token]), Stop<'_>>> Grammar<F> {
     /// Reads a form that nests here.
-    pub fn form<'a>(&self, form: Form, takes_do: bool, tokens: &'a [Token]) -> Read<'a, Boxed<Tree>>
+    pub fn form<'a>(&self, form: Form, takes_do: bool, tokens: &'a [Token]) -> Read<'a, Tree>
         requires { Nests self.now.depth (F.pre self.now.nested) (F.post self.now.nested) }
         ensures { Gives (λ x. (x.0, x.1.now)) result (parsed self.now.depth form takes_do tokens.now) }
     {
         (self.nested)(self.alloc, self.depth, form, takes_do, tokens)
     }
 
-    fn by_form<'a>(&self, form: Form, tokens: &'a [Token]) -> Read<'a, Boxed<Tree>>
+    fn by_form<'a>(&self, form: Form, tokens: &'a [Token]) -> Read<'a, Tree>
         requires { Nests self.now.depth (F.pre self.now.nested) (F.post self.now.nested) }
         ensures { Gives (λ x. (x.0, x.1.now)) result (grammar.by_form (parsed self.now.depth) self.now.depth self.now.takes_do form tokens.now) }
     {

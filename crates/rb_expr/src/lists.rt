@@ -56,19 +56,19 @@ pub fn is_block(order: Order) -> bool
 
 /// Where the argument ends, in bytes.
 #[tactic(auto, unfolding(crate::specs::Lists::end_of_argument))]
-pub fn end_of_argument(argument: &Argument<Boxed<Tree>>) -> u32
+pub fn end_of_argument(argument: &Argument<Tree>) -> u32
     ensures { result ≡ spec.end_of_argument argument.now }
 {
     match argument {
         Argument::Positional { value }
         | Argument::Keyword { value, .. }
-        | Argument::Block { value, .. } => value.get().span().end,
+        | Argument::Block { value, .. } => value.span().end,
     }
 }
 
 /// Whether the last of these arguments is given as a block.
 #[tactic(auto, unfolding(crate::specs::Lists::passes_block))]
-pub fn passes_block(arguments: &[Argument<Boxed<Tree>>]) -> bool
+pub fn passes_block(arguments: &[Argument<Tree>]) -> bool
     ensures { result ≡ spec.passes_block arguments.now }
 {
     match arguments.get(arguments.len().saturating_sub(1)) {

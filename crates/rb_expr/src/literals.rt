@@ -1,14 +1,14 @@
 //! Operands of one token, or of a sign or `::` and a token.
 
-ghost use Rattle.std.specs.Prelude.{◌≡◌};
+ghost use Rattle.std.specs.Prelude.{◌≡◌, IfOk};
 ghost use Rattle.rb_expr.specs.Operands as spec;
 ghost use Rattle.rb_expr.specs.Reading.{Gives};
 
 use crate::reading::{Read, Stop, named, peek, sees, take, worded};
 use crate::shapes::is_signed;
-use rb_tree::syntax::{PlacedName, Sign, Tree};
+use rb_tree::syntax::{Node, PlacedName, Sign, Tree};
 use rb_tree::token::{Shape, Token};
-use srb_terms::{Boxed, Span};
+use srb_terms::{NoMemory, Span};
 use std::alloc::Global;
 
 /// A number behind its sign, if it has one. Both begin at `start`.
@@ -18,7 +18,7 @@ pub fn number<'a>(
     sign: Option<Sign>,
     start: u32,
     tokens: &'a [Token],
-) -> Read<'a, Boxed<Tree>>
+) -> Read<'a, Tree>
     ensures { Gives (λ x. (x.0, x.1.now)) result (spec.number sign start tokens.now) }
 {
     match peek(tokens) {
@@ -28,7 +28,7 @@ pub fn number<'a>(
                 start,
                 end: place.end,
             };
-            Ok((Boxed::new(alloc, Tree::Whole { sign, words, span })?, rest))
+            Ok((Tree::new(alloc, Node::Whole { sign, words, span })?, rest))
         }
         Some(Shape::Float) => {
             let ((words, place), rest) = worded(alloc, Shape::Float, tokens)?;
@@ -36,7 +36,7 @@ pub fn number<'a>(
                 start,
                 end: place.end,
             };
-            Ok((Boxed::new(alloc, Tree::Float { sign, words, span })?, rest))
+            Ok((Tree::new(alloc, Node::Float { sign, words, span })?, rest))
         }
         _ => Err(Stop::Refused(tokens)),
     }
@@ -44,12 +44,7 @@ pub fn number<'a>(
 
 /// A number that touches the sign before it, which has this place.
 #[tactic(auto, unfolding(crate::specs::Operands::touching))]
-fn touching<'a>(
-    alloc: Global,
-    sign: Sign,
-    place: Span,
-    tokens: &'a [Token],
-) -> Read<'a, Boxed<Tree>>
+fn touching<'a>(alloc: Global, sign: Sign, place: Span, tokens: &'a [Token]) -> Read<'a, Tree>
     ensures { Gives (λ x. (x.0, x.1.now)) result (spec.touching sign place tokens.now) }
 {
     if is_signed(place, tokens) {
@@ -61,7 +56,7 @@ fn touching<'a>(
 
 /// A sign and its number.
 #[tactic(auto, unfolding(crate::specs::Operands::signed))]
-pub fn signed<'a>(alloc: Global, sign: Sign, tokens: &'a [Token]) -> Read<'a, Boxed<Tree>>
+pub fn signed<'a>(alloc: Global, sign: Sign, tokens: &'a [Token]) -> Read<'a, Tree>
     ensures { Gives (λ x. (x.0, x.1.now)) result (spec.signed sign tokens.now) }
 {
     let (place, rest) = take(tokens)?;
@@ -69,7 +64,7 @@ pub fn signed<'a>(alloc: Global, sign: Sign, tokens: &'a [Token]) -> Read<'a, Bo
 }
 
 #[tactic(auto, unfolding(crate::specs::Operands::unraised))]
-fn unraised<'a>(value: Boxed<Tree>, tokens: &'a [Token]) -> Read<'a, Boxed<Tree>>
+fn unraised<'a>(value: Tree, tokens: &'a [Token]) -> Read<'a, Tree>
     ensures { Gives (λ x. (x.0, x.1.now)) result (spec.unraised value tokens.now) }
 {
     if sees(Shape::Power, tokens) {
@@ -81,7 +76,7 @@ fn unraised<'a>(value: Boxed<Tree>, tokens: &'a [Token]) -> Read<'a, Boxed<Tree>
 
 /// `-` and its number. No `**` stands behind it: there the `-` is an operator in front of the power.
 #[tactic(auto, unfolding(crate::specs::Operands::negative))]
-pub fn negative<'a>(alloc: Global, tokens: &'a [Token]) -> Read<'a, Boxed<Tree>>
+pub fn negative<'a>(alloc: Global, tokens: &'a [Token]) -> Read<'a, Tree>
     ensures { Gives (λ x. (x.0, x.1.now)) result (spec.negative tokens.now) }
 {
     let (value, rest) = signed(alloc, Sign::Minus, tokens)?;
@@ -89,35 +84,35 @@ pub fn negative<'a>(alloc: Global, tokens: &'a [Token]) -> Read<'a, Boxed<Tree>>
 }
 
 #[tactic(auto, unfolding(crate::specs::Operands::symbol))]
-pub fn symbol<'a>(alloc: Global, tokens: &'a [Token]) -> Read<'a, Boxed<Tree>>
+pub fn symbol<'a>(alloc: Global, tokens: &'a [Token]) -> Read<'a, Tree>
     ensures { Gives (λ x. (x.0, x.1.now)) result (spec.symbol tokens.now) }
 {
     let ((words, span), rest) = worded(alloc, Shape::Symbol, tokens)?;
-    Ok((Boxed::new(alloc, Tree::Symbol { words, span })?, rest))
+    Ok((Tree::new(alloc, Node::Symbol { words, span })?, rest))
 }
 
 #[tactic(auto, unfolding(crate::specs::Operands::instance_variable))]
-pub fn instance_variable<'a>(alloc: Global, tokens: &'a [Token]) -> Read<'a, Boxed<Tree>>
+pub fn instance_variable<'a>(alloc: Global, tokens: &'a [Token]) -> Read<'a, Tree>
     ensures { Gives (λ x. (x.0, x.1.now)) result (spec.instance_variable tokens.now) }
 {
     let (PlacedName { name, span }, rest) = named(alloc, Shape::InstanceVariable, tokens)?;
     Ok((
-        Boxed::new(alloc, Tree::InstanceVariable { name, span })?,
+        Tree::new(alloc, Node::InstanceVariable { name, span })?,
         rest,
     ))
 }
 
 #[tactic(auto, unfolding(crate::specs::Operands::constant))]
-pub fn constant<'a>(alloc: Global, tokens: &'a [Token]) -> Read<'a, Boxed<Tree>>
+pub fn constant<'a>(alloc: Global, tokens: &'a [Token]) -> Read<'a, Tree>
     ensures { Gives (λ x. (x.0, x.1.now)) result (spec.constant tokens.now) }
 {
     let (PlacedName { name, span }, rest) = named(alloc, Shape::Constant, tokens)?;
-    Ok((Boxed::new(alloc, Tree::Constant { name, span })?, rest))
+    Ok((Tree::new(alloc, Node::Constant { name, span })?, rest))
 }
 
 /// `::` and a constant.
 #[tactic(auto, unfolding(crate::specs::Operands::top_constant))]
-pub fn top_constant<'a>(alloc: Global, tokens: &'a [Token]) -> Read<'a, Boxed<Tree>>
+pub fn top_constant<'a>(alloc: Global, tokens: &'a [Token]) -> Read<'a, Tree>
     ensures { Gives (λ x. (x.0, x.1.now)) result (spec.top_constant tokens.now) }
 {
     let (mark, rest) = take(tokens)?;
@@ -130,31 +125,31 @@ pub fn top_constant<'a>(alloc: Global, tokens: &'a [Token]) -> Read<'a, Boxed<Tr
         start: mark.start,
         end: name_span.end,
     };
-    let tree = Tree::TopConstant {
+    let node = Node::TopConstant {
         name,
         name_span,
         span,
     };
-    Ok((Boxed::new(alloc, tree)?, rest))
+    Ok((Tree::new(alloc, node)?, rest))
 }
 
-fn word_of(next: Option<Shape>, span: Span) -> Tree
-    ensures { result ≡ spec.word_by next span }
+fn word_of(alloc: Global, next: Option<Shape>, span: Span) -> Result<Tree, NoMemory>
+    ensures { IfOk result (λ tree. tree ≡ spec.word_by next span) }
 {
     match next {
-        Some(Shape::SelfWord) => Tree::SelfWord { span },
-        Some(Shape::True) => Tree::True { span },
-        Some(Shape::False) => Tree::False { span },
-        _ => Tree::Nil { span },
+        Some(Shape::SelfWord) => Tree::new(alloc, Node::SelfWord { span }),
+        Some(Shape::True) => Tree::new(alloc, Node::True { span }),
+        Some(Shape::False) => Tree::new(alloc, Node::False { span }),
+        _ => Tree::new(alloc, Node::Nil { span }),
     }
 }
 
 /// `self`, `nil`, `true` or `false`.
 #[tactic(auto, unfolding(crate::specs::Operands::word))]
-pub fn word<'a>(alloc: Global, tokens: &'a [Token]) -> Read<'a, Boxed<Tree>>
+pub fn word<'a>(alloc: Global, tokens: &'a [Token]) -> Read<'a, Tree>
     ensures { Gives (λ x. (x.0, x.1.now)) result (spec.word tokens.now) }
 {
     let next = peek(tokens);
     let (span, rest) = take(tokens)?;
-    Ok((Boxed::new(alloc, word_of(next, span))?, rest))
+    Ok((word_of(alloc, next, span)?, rest))
 }

@@ -15,7 +15,9 @@ use crate::reading::{
     Read, Stop, expect, named, peek, sees, skip_separators, start_of, take, worded,
 };
 use crate::shapes::is_index;
-use rb_tree::syntax::{Argument, Block, Dot, Pair, Piece, PlacedName, Sign, Suffix, Test, Tree};
+use rb_tree::syntax::{
+    Argument, Block, Dot, Node, Pair, Piece, PlacedName, Sign, Suffix, Test, Tree,
+};
 use rb_tree::token::{Shape, Token};
 use srb_terms::{Boxed, Items, NoMemory, Span};
 use std::alloc::Global;
@@ -24,10 +26,10 @@ use std::alloc::Global;
 fn call_of(
     alloc: Global,
     name: PlacedName,
-    arguments: Option<Items<Argument<Boxed<Tree>>>>,
+    arguments: Option<Items<Argument<Tree>>>,
     end: u32,
-    block: Option<Boxed<Block<Boxed<Tree>>>>,
-) -> Result<Boxed<Tree>, NoMemory>
+    block: Option<Boxed<Block<Tree>>>,
+) -> Result<Tree, NoMemory>
     ensures { IfOk result (λ tree. tree ≡ operands.call_of name arguments end block) }
 {
     let PlacedName {
@@ -35,9 +37,9 @@ fn call_of(
         span: name_span,
     } = name;
     if arguments.is_none() && block.is_none() {
-        return Boxed::new(
+        return Tree::new(
             alloc,
-            Tree::Name {
+            Node::Name {
                 name,
                 span: name_span,
             },
@@ -47,46 +49,44 @@ fn call_of(
         start: name_span.start,
         end: end_with(&block, end),
     };
-    let tree = Tree::Call {
+    let node = Node::Call {
         name,
         name_span,
         arguments,
         block,
         span,
     };
-    Boxed::new(alloc, tree)
+    Tree::new(alloc, node)
 }
 
 /// An operand with its suffixes, the last of which ends at `end`.
 fn post_of(
     alloc: Global,
-    receiver: Boxed<Tree>,
-    suffixes: Items<Suffix<Boxed<Tree>>>,
+    receiver: Tree,
+    suffixes: Items<Suffix<Tree>>,
     end: u32,
-) -> Result<Boxed<Tree>, NoMemory>
+) -> Result<Tree, NoMemory>
     ensures { IfOk result (λ tree. tree ≡ operands.post_of receiver suffixes end) }
 {
     if suffixes.is_empty() {
         return Ok(receiver);
     }
     let span = Span {
-        start: receiver.get().span().start,
+        start: receiver.span().start,
         end,
     };
-    let tree = Tree::Post {
+    let node = Node::Post {
         receiver,
         suffixes,
         span,
     };
-    Boxed::new(alloc, tree)
+    Tree::new(alloc, node)
 }
 
-impl<
-    F: Fn(Global, usize, Form, bool, &[Token]) -> Result<(Boxed<Tree>, &[Token]), Stop<'_>>,
-> Grammar<F> {
+impl<F: Fn(Global, usize, Form, bool, &[Token]) -> Result<(Tree, &[Token]), Stop<'_>>> Grammar<F> {
     /// `#{`, a body and `}`.
     #[tactic(auto, unfolding(crate::specs::Operands::interpolation))]
-    fn interpolation<'a>(&self, tokens: &'a [Token]) -> Read<'a, Piece<Boxed<Tree>>>
+    fn interpolation<'a>(&self, tokens: &'a [Token]) -> Read<'a, Piece<Tree>>
         requires { Nests self.now.depth (F.pre self.now.nested) (F.post self.now.nested) }
         ensures { Gives (λ x. (x.0, x.1.now)) result (operands.interpolation (parsed self.now.depth) self.now.depth self.now.takes_do tokens.now) }
     {
@@ -101,12 +101,7 @@ impl<
     }
 
     /// A string behind its first piece, which has this place.
-    fn pieces<'a>(
-        &self,
-        first: Piece<Boxed<Tree>>,
-        place: Span,
-        tokens: &'a [Token],
-    ) -> Read<'a, Boxed<Tree>>
+    fn pieces<'a>(&self, first: Piece<Tree>, place: Span, tokens: &'a [Token]) -> Read<'a, Tree>
         requires { Nests self.now.depth (F.pre self.now.nested) (F.post self.now.nested) }
         ensures { Gives (λ x. (x.0, x.1.now)) result (operands.pieces (parsed self.now.depth) self.now.depth self.now.takes_do first place tokens.now) }
     {
@@ -120,11 +115,11 @@ impl<
                     start: place.start,
                     end,
                 };
-                let tree = Tree::Text {
+                let node = Node::Text {
                     pieces: found,
                     span,
                 };
-                return Ok((Boxed::new(self.alloc, tree)?, rest));
+                return Ok((Tree::new(self.alloc, node)?, rest));
             }
             let (code, behind) = self.interpolation(rest)?;
             let ((words, span), behind) = worded(self.alloc, Shape::Text, behind)?;
@@ -138,7 +133,7 @@ impl<
 
     /// A string.
     #[tactic(auto, unfolding(crate::specs::Operands::text))]
-    fn text<'a>(&self, tokens: &'a [Token]) -> Read<'a, Boxed<Tree>>
+    fn text<'a>(&self, tokens: &'a [Token]) -> Read<'a, Tree>
         requires { Nests self.now.depth (F.pre self.now.nested) (F.post self.now.nested) }
         ensures { Gives (λ x. (x.0, x.1.now)) result (operands.text (parsed self.now.depth) self.now.depth self.now.takes_do tokens.now) }
     {
@@ -148,7 +143,7 @@ impl<
 
     /// A name, perhaps with brackets and a block.
     #[tactic(auto, unfolding(crate::specs::Operands::called))]
-    fn called<'a>(&self, tokens: &'a [Token]) -> Read<'a, Boxed<Tree>>
+    fn called<'a>(&self, tokens: &'a [Token]) -> Read<'a, Tree>
         requires { Nests self.now.depth (F.pre self.now.nested) (F.post self.now.nested) }
         ensures { Gives (λ x. (x.0, x.1.now)) result (operands.called (parsed self.now.depth) self.now.depth self.now.takes_do tokens.now) }
     {
@@ -159,7 +154,7 @@ impl<
     }
 
     #[tactic(auto, unfolding(crate::specs::Operands::yielding))]
-    fn yielding<'a>(&self, tokens: &'a [Token]) -> Read<'a, Boxed<Tree>>
+    fn yielding<'a>(&self, tokens: &'a [Token]) -> Read<'a, Tree>
         requires { Nests self.now.depth (F.pre self.now.nested) (F.post self.now.nested) }
         ensures { Gives (λ x. (x.0, x.1.now)) result (operands.yielding (parsed self.now.depth) self.now.depth self.now.takes_do tokens.now) }
     {
@@ -169,12 +164,12 @@ impl<
             start: mark.start,
             end,
         };
-        let tree = Tree::Yield { arguments, span };
-        Ok((Boxed::new(self.alloc, tree)?, rest))
+        let node = Node::Yield { arguments, span };
+        Ok((Tree::new(self.alloc, node)?, rest))
     }
 
     #[tactic(auto, unfolding(crate::specs::Operands::super_call))]
-    fn super_call<'a>(&self, tokens: &'a [Token]) -> Read<'a, Boxed<Tree>>
+    fn super_call<'a>(&self, tokens: &'a [Token]) -> Read<'a, Tree>
         requires { Nests self.now.depth (F.pre self.now.nested) (F.post self.now.nested) }
         ensures { Gives (λ x. (x.0, x.1.now)) result (operands.super_call (parsed self.now.depth) self.now.depth self.now.takes_do tokens.now) }
     {
@@ -184,12 +179,12 @@ impl<
             start: mark.start,
             end,
         };
-        let tree = Tree::Super { arguments, span };
-        Ok((Boxed::new(self.alloc, tree)?, rest))
+        let node = Node::Super { arguments, span };
+        Ok((Tree::new(self.alloc, node)?, rest))
     }
 
     /// The elements of an array, at least one, and its closing bracket. It begins at `start`.
-    fn elements<'a>(&self, start: u32, tokens: &'a [Token]) -> Read<'a, Boxed<Tree>>
+    fn elements<'a>(&self, start: u32, tokens: &'a [Token]) -> Read<'a, Tree>
         requires { Nests self.now.depth (F.pre self.now.nested) (F.post self.now.nested) }
         ensures { Gives (λ x. (x.0, x.1.now)) result (operands.elements (parsed self.now.depth) self.now.depth self.now.takes_do start tokens.now) }
     {
@@ -204,11 +199,11 @@ impl<
                     start,
                     end: closing.end,
                 };
-                let tree = Tree::Array {
+                let node = Node::Array {
                     elements: found,
                     span,
                 };
-                return Ok((Boxed::new(self.alloc, tree)?, behind));
+                return Ok((Tree::new(self.alloc, node)?, behind));
             }
             rest = behind;
         }
@@ -217,7 +212,7 @@ impl<
 
     /// What stands behind the `[` of an array and separators.
     #[tactic(auto, unfolding(crate::specs::Operands::array_from))]
-    fn array_from<'a>(&self, start: u32, tokens: &'a [Token]) -> Read<'a, Boxed<Tree>>
+    fn array_from<'a>(&self, start: u32, tokens: &'a [Token]) -> Read<'a, Tree>
         requires { Nests self.now.depth (F.pre self.now.nested) (F.post self.now.nested) }
         ensures { Gives (λ x. (x.0, x.1.now)) result (operands.array_from (parsed self.now.depth) self.now.depth self.now.takes_do start tokens.now) }
     {
@@ -229,15 +224,15 @@ impl<
             start,
             end: closing.end,
         };
-        let tree = Tree::Array {
+        let node = Node::Array {
             elements: Items::new(self.alloc),
             span,
         };
-        Ok((Boxed::new(self.alloc, tree)?, rest))
+        Ok((Tree::new(self.alloc, node)?, rest))
     }
 
     #[tactic(auto, unfolding(crate::specs::Operands::array))]
-    fn array<'a>(&self, tokens: &'a [Token]) -> Read<'a, Boxed<Tree>>
+    fn array<'a>(&self, tokens: &'a [Token]) -> Read<'a, Tree>
         requires { Nests self.now.depth (F.pre self.now.nested) (F.post self.now.nested) }
         ensures { Gives (λ x. (x.0, x.1.now)) result (operands.array (parsed self.now.depth) self.now.depth self.now.takes_do tokens.now) }
     {
@@ -246,7 +241,7 @@ impl<
     }
 
     #[tactic(auto, unfolding(crate::specs::Operands::label_pair))]
-    fn label_pair<'a>(&self, tokens: &'a [Token]) -> Read<'a, Pair<Boxed<Tree>>>
+    fn label_pair<'a>(&self, tokens: &'a [Token]) -> Read<'a, Pair<Tree>>
         requires { Nests self.now.depth (F.pre self.now.nested) (F.post self.now.nested) }
         ensures { Gives (λ x. (x.0, x.1.now)) result (operands.label_pair (parsed self.now.depth) self.now.depth self.now.takes_do tokens.now) }
     {
@@ -257,7 +252,7 @@ impl<
     }
 
     #[tactic(auto, unfolding(crate::specs::Operands::arrow_pair))]
-    fn arrow_pair<'a>(&self, tokens: &'a [Token]) -> Read<'a, Pair<Boxed<Tree>>>
+    fn arrow_pair<'a>(&self, tokens: &'a [Token]) -> Read<'a, Pair<Tree>>
         requires { Nests self.now.depth (F.pre self.now.nested) (F.post self.now.nested) }
         ensures { Gives (λ x. (x.0, x.1.now)) result (operands.arrow_pair (parsed self.now.depth) self.now.depth self.now.takes_do tokens.now) }
     {
@@ -269,7 +264,7 @@ impl<
 
     /// A pair of a hash.
     #[tactic(auto, unfolding(crate::specs::Operands::a_pair))]
-    fn pair<'a>(&self, tokens: &'a [Token]) -> Read<'a, Pair<Boxed<Tree>>>
+    fn pair<'a>(&self, tokens: &'a [Token]) -> Read<'a, Pair<Tree>>
         requires { Nests self.now.depth (F.pre self.now.nested) (F.post self.now.nested) }
         ensures { Gives (λ x. (x.0, x.1.now)) result (operands.a_pair (parsed self.now.depth) self.now.depth self.now.takes_do tokens.now) }
     {
@@ -281,7 +276,7 @@ impl<
     }
 
     /// The pairs of a hash, at least one, and its closing bracket. It begins at `start`.
-    fn pairs<'a>(&self, start: u32, tokens: &'a [Token]) -> Read<'a, Boxed<Tree>>
+    fn pairs<'a>(&self, start: u32, tokens: &'a [Token]) -> Read<'a, Tree>
         requires { Nests self.now.depth (F.pre self.now.nested) (F.post self.now.nested) }
         ensures { Gives (λ x. (x.0, x.1.now)) result (operands.pairs (parsed self.now.depth) self.now.depth self.now.takes_do start tokens.now) }
     {
@@ -296,8 +291,8 @@ impl<
                     start,
                     end: closing.end,
                 };
-                let tree = Tree::Hash { pairs: found, span };
-                return Ok((Boxed::new(self.alloc, tree)?, behind));
+                let node = Node::Hash { pairs: found, span };
+                return Ok((Tree::new(self.alloc, node)?, behind));
             }
             rest = behind;
         }
@@ -306,7 +301,7 @@ impl<
 
     /// What stands behind the `{` of a hash and separators.
     #[tactic(auto, unfolding(crate::specs::Operands::hash_from))]
-    fn hash_from<'a>(&self, start: u32, tokens: &'a [Token]) -> Read<'a, Boxed<Tree>>
+    fn hash_from<'a>(&self, start: u32, tokens: &'a [Token]) -> Read<'a, Tree>
         requires { Nests self.now.depth (F.pre self.now.nested) (F.post self.now.nested) }
         ensures { Gives (λ x. (x.0, x.1.now)) result (operands.hash_from (parsed self.now.depth) self.now.depth self.now.takes_do start tokens.now) }
     {
@@ -318,15 +313,15 @@ impl<
             start,
             end: closing.end,
         };
-        let tree = Tree::Hash {
+        let node = Node::Hash {
             pairs: Items::new(self.alloc),
             span,
         };
-        Ok((Boxed::new(self.alloc, tree)?, rest))
+        Ok((Tree::new(self.alloc, node)?, rest))
     }
 
     #[tactic(auto, unfolding(crate::specs::Operands::hash))]
-    fn hash<'a>(&self, tokens: &'a [Token]) -> Read<'a, Boxed<Tree>>
+    fn hash<'a>(&self, tokens: &'a [Token]) -> Read<'a, Tree>
         requires { Nests self.now.depth (F.pre self.now.nested) (F.post self.now.nested) }
         ensures { Gives (λ x. (x.0, x.1.now)) result (operands.hash (parsed self.now.depth) self.now.depth self.now.takes_do tokens.now) }
     {
@@ -336,7 +331,7 @@ impl<
 
     /// `(`, a body and `)`.
     #[tactic(auto, unfolding(crate::specs::Operands::parens))]
-    fn parens<'a>(&self, tokens: &'a [Token]) -> Read<'a, Boxed<Tree>>
+    fn parens<'a>(&self, tokens: &'a [Token]) -> Read<'a, Tree>
         requires { Nests self.now.depth (F.pre self.now.nested) (F.post self.now.nested) }
         ensures { Gives (λ x. (x.0, x.1.now)) result (operands.parens (parsed self.now.depth) self.now.depth self.now.takes_do tokens.now) }
     {
@@ -347,13 +342,13 @@ impl<
             start: opening.start,
             end: closing.end,
         };
-        let tree = Tree::Parens { body, span };
-        Ok((Boxed::new(self.alloc, tree)?, rest))
+        let node = Node::Parens { body, span };
+        Ok((Tree::new(self.alloc, node)?, rest))
     }
 
     /// An operand without suffixes.
     #[tactic(auto, unfolding(crate::specs::Operands::primary))]
-    fn primary<'a>(&self, tokens: &'a [Token]) -> Read<'a, Boxed<Tree>>
+    fn primary<'a>(&self, tokens: &'a [Token]) -> Read<'a, Tree>
         requires { Nests self.now.depth (F.pre self.now.nested) (F.post self.now.nested) }
         ensures { Gives (λ x. (x.0, x.1.now)) result (operands.primary (parsed self.now.depth) self.now.depth self.now.takes_do tokens.now) }
     {
@@ -389,7 +384,7 @@ impl<
 
     /// A call behind its receiver, from the dot on.
     #[tactic(auto, unfolding(crate::specs::Operands::call_suffix))]
-    fn call_suffix<'a>(&self, joint: Dot, tokens: &'a [Token]) -> Read<'a, Suffix<Boxed<Tree>>>
+    fn call_suffix<'a>(&self, joint: Dot, tokens: &'a [Token]) -> Read<'a, Suffix<Tree>>
         requires { Nests self.now.depth (F.pre self.now.nested) (F.post self.now.nested) }
         ensures { Gives (λ x. (x.0, x.1.now)) result (operands.call_suffix (parsed self.now.depth) self.now.depth self.now.takes_do joint tokens.now) }
     {
@@ -417,7 +412,7 @@ impl<
     }
 
     #[tactic(auto, unfolding(crate::specs::Operands::constant_suffix))]
-    fn constant_suffix<'a>(&self, tokens: &'a [Token]) -> Read<'a, Suffix<Boxed<Tree>>>
+    fn constant_suffix<'a>(&self, tokens: &'a [Token]) -> Read<'a, Suffix<Tree>>
         requires { Nests self.now.depth (F.pre self.now.nested) (F.post self.now.nested) }
         ensures { Gives (λ x. (x.0, x.1.now)) result (operands.constant_suffix (parsed self.now.depth) self.now.depth self.now.takes_do tokens.now) }
     {
@@ -440,7 +435,7 @@ impl<
     }
 
     #[tactic(auto, unfolding(crate::specs::Operands::index_suffix))]
-    fn index_suffix<'a>(&self, tokens: &'a [Token]) -> Read<'a, Suffix<Boxed<Tree>>>
+    fn index_suffix<'a>(&self, tokens: &'a [Token]) -> Read<'a, Suffix<Tree>>
         requires { Nests self.now.depth (F.pre self.now.nested) (F.post self.now.nested) }
         ensures { Gives (λ x. (x.0, x.1.now)) result (operands.index_suffix (parsed self.now.depth) self.now.depth self.now.takes_do tokens.now) }
     {
@@ -455,11 +450,7 @@ impl<
 
     /// A suffix, if one comes next. `all` are the tokens from the operand on.
     #[tactic(auto, unfolding(crate::specs::Operands::a_suffix))]
-    fn suffix<'a>(
-        &self,
-        all: &[Token],
-        tokens: &'a [Token],
-    ) -> Read<'a, Option<Suffix<Boxed<Tree>>>>
+    fn suffix<'a>(&self, all: &[Token], tokens: &'a [Token]) -> Read<'a, Option<Suffix<Tree>>>
         requires { Nests self.now.depth (F.pre self.now.nested) (F.post self.now.nested) }
         ensures { Gives (λ x. (x.0, x.1.now)) result (operands.a_suffix (parsed self.now.depth) self.now.depth self.now.takes_do all.now tokens.now) }
     {
@@ -488,12 +479,7 @@ impl<
     }
 
     /// The suffixes behind an operand. `all` are the tokens from the operand on.
-    fn suffixes<'a>(
-        &self,
-        all: &[Token],
-        receiver: Boxed<Tree>,
-        tokens: &'a [Token],
-    ) -> Read<'a, Boxed<Tree>>
+    fn suffixes<'a>(&self, all: &[Token], receiver: Tree, tokens: &'a [Token]) -> Read<'a, Tree>
         requires { Nests self.now.depth (F.pre self.now.nested) (F.post self.now.nested) }
         ensures { Gives (λ x. (x.0, x.1.now)) result (operands.suffixes (parsed self.now.depth) self.now.depth self.now.takes_do all.now receiver tokens.now) }
     {
@@ -514,7 +500,7 @@ impl<
 
     /// An operand with its suffixes.
     #[tactic(auto, unfolding(crate::specs::Operands::post))]
-    pub fn post<'a>(&self, tokens: &'a [Token]) -> Read<'a, Boxed<Tree>>
+    pub fn post<'a>(&self, tokens: &'a [Token]) -> Read<'a, Tree>
         requires { Nests self.now.depth (F.pre self.now.nested) (F.post self.now.nested) }
         ensures { Gives (λ x. (x.0, x.1.now)) result (operands.post (parsed self.now.depth) self.now.depth self.now.takes_do tokens.now) }
     {

@@ -9,9 +9,9 @@ use crate::form::Form;
 use crate::grammar::Grammar;
 use crate::reading::{Read, Stop, expect, peek, sees, take};
 use crate::shapes::{ceiling, is_negation, level_of, operator_between, prefix_of};
-use rb_tree::syntax::{Binary, Tree, Unary};
+use rb_tree::syntax::{Binary, Node, Tree, Unary};
 use rb_tree::token::{Shape, Token};
-use srb_terms::{Boxed, Span};
+use srb_terms::Span;
 use std::alloc::Global;
 
 /// The place from the start of the first to the end of the last.
@@ -32,9 +32,7 @@ pub fn across(first: &Tree, last: &Tree) -> Span
     from_to(first.span(), last.span())
 }
 
-impl<
-    F: Fn(Global, usize, Form, bool, &[Token]) -> Result<(Boxed<Tree>, &[Token]), Stop<'_>>,
-> Grammar<F> {
+impl<F: Fn(Global, usize, Form, bool, &[Token]) -> Result<(Tree, &[Token]), Stop<'_>>> Grammar<F> {
     /// An operator and its operand, which is read as this form.
     #[tactic(auto, unfolding(crate::specs::Operators::unary_operation))]
     fn unary_operation<'a>(
@@ -42,19 +40,19 @@ impl<
         operator: Unary,
         form: Form,
         tokens: &'a [Token],
-    ) -> Read<'a, Boxed<Tree>>
+    ) -> Read<'a, Tree>
         requires { Nests self.now.depth (F.pre self.now.nested) (F.post self.now.nested) }
         ensures { Gives (λ x. (x.0, x.1.now)) result (operators.unary_operation (parsed self.now.depth) self.now.depth self.now.takes_do operator form tokens.now) }
     {
         let (mark, rest) = take(tokens)?;
         let (operand, rest) = self.form(form, self.takes_do, rest)?;
-        let span = from_to(mark, operand.get().span());
-        let tree = Tree::Unary {
+        let span = from_to(mark, operand.span());
+        let node = Node::Unary {
             operator,
             operand,
             span,
         };
-        Ok((Boxed::new(self.alloc, tree)?, rest))
+        Ok((Tree::new(self.alloc, node)?, rest))
     }
 
     /// An operator behind its left side, and its right side, which is read as this form.
@@ -63,28 +61,28 @@ impl<
         &self,
         operator: Binary,
         form: Form,
-        left: Boxed<Tree>,
+        left: Tree,
         tokens: &'a [Token],
-    ) -> Read<'a, Boxed<Tree>>
+    ) -> Read<'a, Tree>
         requires { Nests self.now.depth (F.pre self.now.nested) (F.post self.now.nested) }
         ensures { Gives (λ x. (x.0, x.1.now)) result (operators.binary_operation (parsed self.now.depth) self.now.depth self.now.takes_do operator form left tokens.now) }
     {
         let (operator_span, rest) = take(tokens)?;
         let (right, rest) = self.form(form, self.takes_do, rest)?;
-        let span = across(left.get(), right.get());
-        let tree = Tree::Binary {
+        let span = across(&left, &right);
+        let node = Node::Binary {
             operator,
             operator_span,
             left,
             right,
             span,
         };
-        Ok((Boxed::new(self.alloc, tree)?, rest))
+        Ok((Tree::new(self.alloc, node)?, rest))
     }
 
     /// An operand, perhaps with `!`, `~` or `+` in front.
     #[tactic(auto, unfolding(crate::specs::Operators::prefixed))]
-    pub fn prefixed<'a>(&self, tokens: &'a [Token]) -> Read<'a, Boxed<Tree>>
+    pub fn prefixed<'a>(&self, tokens: &'a [Token]) -> Read<'a, Tree>
         requires { Nests self.now.depth (F.pre self.now.nested) (F.post self.now.nested) }
         ensures { Gives (λ x. (x.0, x.1.now)) result (operators.prefixed (parsed self.now.depth) self.now.depth self.now.takes_do tokens.now) }
     {
@@ -96,7 +94,7 @@ impl<
 
     /// Perhaps `**` and its right side behind this operand.
     #[tactic(auto, unfolding(crate::specs::Operators::powered))]
-    fn powered<'a>(&self, left: Boxed<Tree>, tokens: &'a [Token]) -> Read<'a, Boxed<Tree>>
+    fn powered<'a>(&self, left: Tree, tokens: &'a [Token]) -> Read<'a, Tree>
         requires { Nests self.now.depth (F.pre self.now.nested) (F.post self.now.nested) }
         ensures { Gives (λ x. (x.0, x.1.now)) result (operators.powered (parsed self.now.depth) self.now.depth self.now.takes_do left tokens.now) }
     {
@@ -108,7 +106,7 @@ impl<
     }
 
     #[tactic(auto, unfolding(crate::specs::Operators::power))]
-    fn power<'a>(&self, tokens: &'a [Token]) -> Read<'a, Boxed<Tree>>
+    fn power<'a>(&self, tokens: &'a [Token]) -> Read<'a, Tree>
         requires { Nests self.now.depth (F.pre self.now.nested) (F.post self.now.nested) }
         ensures { Gives (λ x. (x.0, x.1.now)) result (operators.power (parsed self.now.depth) self.now.depth self.now.takes_do tokens.now) }
     {
@@ -118,7 +116,7 @@ impl<
 
     /// An operand, perhaps with prefixes and powers.
     #[tactic(auto, unfolding(crate::specs::Operators::negated))]
-    pub fn negated<'a>(&self, tokens: &'a [Token]) -> Read<'a, Boxed<Tree>>
+    pub fn negated<'a>(&self, tokens: &'a [Token]) -> Read<'a, Tree>
         requires { Nests self.now.depth (F.pre self.now.nested) (F.post self.now.nested) }
         ensures { Gives (λ x. (x.0, x.1.now)) result (operators.negated (parsed self.now.depth) self.now.depth self.now.takes_do tokens.now) }
     {
@@ -130,7 +128,7 @@ impl<
     }
 
     /// Operations behind their first operand, whose operators bind at least as tightly as `least`.
-    fn climb<'a>(&self, least: u8, left: Boxed<Tree>, tokens: &'a [Token]) -> Read<'a, Boxed<Tree>>
+    fn climb<'a>(&self, least: u8, left: Tree, tokens: &'a [Token]) -> Read<'a, Tree>
         requires { Nests self.now.depth (F.pre self.now.nested) (F.post self.now.nested) }
         ensures { Gives (λ x. (x.0, x.1.now)) result (operators.climb (parsed self.now.depth) self.now.depth self.now.takes_do least left tokens.now) }
     {
@@ -154,7 +152,7 @@ impl<
 
     /// An operation of operators that bind at least as tightly as `least`.
     #[tactic(auto, unfolding(crate::specs::Operators::operation))]
-    pub fn operation<'a>(&self, least: u8, tokens: &'a [Token]) -> Read<'a, Boxed<Tree>>
+    pub fn operation<'a>(&self, least: u8, tokens: &'a [Token]) -> Read<'a, Tree>
         requires { Nests self.now.depth (F.pre self.now.nested) (F.post self.now.nested) }
         ensures { Gives (λ x. (x.0, x.1.now)) result (operators.operation (parsed self.now.depth) self.now.depth self.now.takes_do least tokens.now) }
     {
@@ -164,7 +162,7 @@ impl<
 
     /// `?`, `:` and their sides, behind their condition.
     #[tactic(auto, unfolding(crate::specs::Operators::alternatives))]
-    fn alternatives<'a>(&self, condition: Boxed<Tree>, tokens: &'a [Token]) -> Read<'a, Boxed<Tree>>
+    fn alternatives<'a>(&self, condition: Tree, tokens: &'a [Token]) -> Read<'a, Tree>
         requires { Nests self.now.depth (F.pre self.now.nested) (F.post self.now.nested) }
         ensures { Gives (λ x. (x.0, x.1.now)) result (operators.alternatives (parsed self.now.depth) self.now.depth self.now.takes_do condition tokens.now) }
     {
@@ -172,18 +170,18 @@ impl<
         let (positive, rest) = self.form(Form::Tern, self.takes_do, rest)?;
         let (_, rest) = expect(Shape::Colon, rest)?;
         let (negative, rest) = self.form(Form::Tern, self.takes_do, rest)?;
-        let span = across(condition.get(), negative.get());
-        let tree = Tree::Conditional {
+        let span = across(&condition, &negative);
+        let node = Node::Conditional {
             condition,
             positive,
             negative,
             span,
         };
-        Ok((Boxed::new(self.alloc, tree)?, rest))
+        Ok((Tree::new(self.alloc, node)?, rest))
     }
 
     #[tactic(auto, unfolding(crate::specs::Operators::chosen))]
-    fn chosen<'a>(&self, condition: Boxed<Tree>, tokens: &'a [Token]) -> Read<'a, Boxed<Tree>>
+    fn chosen<'a>(&self, condition: Tree, tokens: &'a [Token]) -> Read<'a, Tree>
         requires { Nests self.now.depth (F.pre self.now.nested) (F.post self.now.nested) }
         ensures { Gives (λ x. (x.0, x.1.now)) result (operators.chosen (parsed self.now.depth) self.now.depth self.now.takes_do condition tokens.now) }
     {
@@ -196,7 +194,7 @@ impl<
 
     /// An expression with operators, at most `? :`.
     #[tactic(auto, unfolding(crate::specs::Operators::tern))]
-    pub fn tern<'a>(&self, tokens: &'a [Token]) -> Read<'a, Boxed<Tree>>
+    pub fn tern<'a>(&self, tokens: &'a [Token]) -> Read<'a, Tree>
         requires { Nests self.now.depth (F.pre self.now.nested) (F.post self.now.nested) }
         ensures { Gives (λ x. (x.0, x.1.now)) result (operators.tern (parsed self.now.depth) self.now.depth self.now.takes_do tokens.now) }
     {
@@ -206,7 +204,7 @@ impl<
 
     /// The rest of an expression that begins by this operand.
     #[tactic(auto, unfolding(crate::specs::Operators::tern_behind))]
-    pub fn tern_behind<'a>(&self, first: Boxed<Tree>, tokens: &'a [Token]) -> Read<'a, Boxed<Tree>>
+    pub fn tern_behind<'a>(&self, first: Tree, tokens: &'a [Token]) -> Read<'a, Tree>
         requires { Nests self.now.depth (F.pre self.now.nested) (F.post self.now.nested) }
         ensures { Gives (λ x. (x.0, x.1.now)) result (operators.tern_behind (parsed self.now.depth) self.now.depth self.now.takes_do first tokens.now) }
     {

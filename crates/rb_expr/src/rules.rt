@@ -19,7 +19,7 @@ pub fn statement<'a>(
     depth: usize,
     constants: bool,
     tokens: &'a [Token],
-) -> Read<'a, Boxed<Tree>>
+) -> Read<'a, Tree>
     ensures { Gives (λ x. (x.0, x.1.now)) result (spec.statement depth constants tokens.now) }
 {
     Grammar {
@@ -38,7 +38,7 @@ pub fn longest_body<'a>(
     depth: usize,
     constants: bool,
     tokens: &'a [Token],
-) -> Read<'a, Boxed<Tree>>
+) -> Read<'a, Tree>
     ensures { Gives (λ x. (x.0, x.1.now)) result (spec.longest_body depth constants tokens.now) }
 {
     Grammar {
@@ -56,7 +56,7 @@ pub fn guarded<'a>(
     alloc: Global,
     depth: usize,
     tokens: &'a [Token],
-) -> Read<'a, Boxed<Guarded<Boxed<Tree>>>>
+) -> Read<'a, Boxed<Guarded<Tree>>>
     ensures { Gives (λ x. (x.0, x.1.now)) result (spec.guarded depth tokens.now) }
 {
     Grammar {
@@ -70,7 +70,7 @@ pub fn guarded<'a>(
 
 /// An expression with operators, at most `? :`.
 #[tactic(auto, unfolding(crate::specs::Rules::tern))]
-pub fn tern<'a>(alloc: Global, depth: usize, tokens: &'a [Token]) -> Read<'a, Boxed<Tree>>
+pub fn tern<'a>(alloc: Global, depth: usize, tokens: &'a [Token]) -> Read<'a, Tree>
     ensures { Gives (λ x. (x.0, x.1.now)) result (spec.tern depth tokens.now) }
 {
     Grammar {

@@ -4,6 +4,7 @@ ghost use Rattle.std.specs.Prelude.{◌≡◌, IfOk};
 ghost use Rattle.rb_expr.specs.Grammar.{Nests, parsed};
 ghost use Rattle.rb_expr.specs.Reading.{Gives};
 ghost use Rattle.rb_expr.specs.Statements as statements;
+ghost use Rattle.rb_tree.specs.Nodes as tree;
 
 use crate::ending::{Follower, ending_of, follower_of, modifier_behind};
 use crate::form::Form;
@@ -12,17 +13,17 @@ use crate::lists::end_with;
 use crate::operators::across;
 use crate::reading::{Read, Stop, expect, peek, sees, skip_separators, start_of, take};
 use crate::shapes::{begins_statement, has_prefix, has_value, jump_of};
-use rb_tree::syntax::{Binary, Jump, Modifier, Tree};
+use rb_tree::syntax::{Binary, Jump, Modifier, Node, Tree};
 use rb_tree::token::{Shape, Token};
-use srb_terms::{Boxed, Items, NoMemory, Span};
+use srb_terms::{Items, NoMemory, Span};
 use std::alloc::Global;
 
 /// Where a tree ends, or the place where none is.
-fn end_or(end: u32, tree: &Option<Boxed<Tree>>) -> u32
+fn end_or(end: u32, tree: &Option<Tree>) -> u32
     ensures { result ≡ statements.end_or end tree.now }
 {
     match tree {
-        Some(tree) => tree.get().span().end,
+        Some(tree) => tree.span().end,
         None => end,
     }
 }
@@ -38,24 +39,22 @@ fn body_start(tokens: &[Token]) -> u32
     }
 }
 
-impl<
-    F: Fn(Global, usize, Form, bool, &[Token]) -> Result<(Boxed<Tree>, &[Token]), Stop<'_>>,
-> Grammar<F> {
+impl<F: Fn(Global, usize, Form, bool, &[Token]) -> Result<(Tree, &[Token]), Stop<'_>>> Grammar<F> {
     /// `=` and a value behind its target.
     #[tactic(auto, unfolding(crate::specs::Statements::assigned))]
-    fn assigned<'a>(&self, target: Boxed<Tree>, tokens: &'a [Token]) -> Read<'a, Boxed<Tree>>
+    fn assigned<'a>(&self, target: Tree, tokens: &'a [Token]) -> Read<'a, Tree>
         requires { Nests self.now.depth (F.pre self.now.nested) (F.post self.now.nested) }
         ensures { Gives (λ x. (x.0, x.1.now)) result (statements.assigned (parsed self.now.depth) self.now.depth self.now.takes_do target tokens.now) }
     {
         let (_, rest) = expect(Shape::Assign, tokens)?;
         let (value, rest) = self.form(Form::Value, self.takes_do, rest)?;
-        let span = across(target.get(), value.get());
-        let tree = Tree::Assign {
+        let span = across(&target, &value);
+        let node = Node::Assign {
             target,
             value,
             span,
         };
-        Ok((Boxed::new(self.alloc, tree)?, rest))
+        Ok((Tree::new(self.alloc, node)?, rest))
     }
 
     /// An operator with `=` and a value behind its target.
@@ -63,59 +62,54 @@ impl<
     fn operator_assigned<'a>(
         &self,
         operator: Binary,
-        target: Boxed<Tree>,
+        target: Tree,
         tokens: &'a [Token],
-    ) -> Read<'a, Boxed<Tree>>
+    ) -> Read<'a, Tree>
         requires { Nests self.now.depth (F.pre self.now.nested) (F.post self.now.nested) }
         ensures { Gives (λ x. (x.0, x.1.now)) result (statements.operator_assigned (parsed self.now.depth) self.now.depth self.now.takes_do operator target tokens.now) }
     {
         let (operator_span, rest) = take(tokens)?;
         let (value, rest) = self.form(Form::Value, self.takes_do, rest)?;
-        let span = across(target.get(), value.get());
-        let tree = Tree::OperatorAssign {
+        let span = across(&target, &value);
+        let node = Node::OperatorAssign {
             target,
             operator,
             operator_span,
             value,
             span,
         };
-        Ok((Boxed::new(self.alloc, tree)?, rest))
+        Ok((Tree::new(self.alloc, node)?, rest))
     }
 
     /// Arguments without brackets and perhaps a block, behind what is called.
     #[tactic(auto, unfolding(crate::specs::Statements::command))]
-    fn command<'a>(&self, callee: Boxed<Tree>, tokens: &'a [Token]) -> Read<'a, Boxed<Tree>>
+    fn command<'a>(&self, callee: Tree, tokens: &'a [Token]) -> Read<'a, Tree>
         requires { Nests self.now.depth (F.pre self.now.nested) (F.post self.now.nested) }
         ensures { Gives (λ x. (x.0, x.1.now)) result (statements.command (parsed self.now.depth) self.now.depth self.now.takes_do callee tokens.now) }
     {
         let ((arguments, end), rest) = self.bare(tokens)?;
         let (block, rest) = self.command_block(arguments.as_slice(), rest)?;
         let span = Span {
-            start: callee.get().span().start,
+            start: callee.span().start,
             end: end_with(&block, end),
         };
-        let tree = Tree::Command {
+        let node = Node::Command {
             callee,
             arguments,
             block,
             span,
         };
-        Ok((Boxed::new(self.alloc, tree)?, rest))
+        Ok((Tree::new(self.alloc, node)?, rest))
     }
 
     /// What begins by this operand: an assignment, a call without brackets, or an expression. `constants` says whether a
     /// constant may be assigned to.
     #[tactic(auto, unfolding(crate::specs::Statements::followed))]
-    fn followed<'a>(
-        &self,
-        constants: bool,
-        first: Boxed<Tree>,
-        tokens: &'a [Token],
-    ) -> Read<'a, Boxed<Tree>>
+    fn followed<'a>(&self, constants: bool, first: Tree, tokens: &'a [Token]) -> Read<'a, Tree>
         requires { Nests self.now.depth (F.pre self.now.nested) (F.post self.now.nested) }
         ensures { Gives (λ x. (x.0, x.1.now)) result (statements.followed (parsed self.now.depth) self.now.depth self.now.takes_do constants first tokens.now) }
     {
-        match follower_of(constants, ending_of(first.get()), peek(tokens)) {
+        match follower_of(constants, ending_of(&first), peek(tokens)) {
             Follower::Value => self.assigned(first, tokens),
             Follower::Operator { operator } => self.operator_assigned(operator, first, tokens),
             Follower::Arguments => self.command(first, tokens),
@@ -124,7 +118,7 @@ impl<
     }
 
     #[tactic(auto, unfolding(crate::specs::Statements::from_operand))]
-    fn from_operand<'a>(&self, constants: bool, tokens: &'a [Token]) -> Read<'a, Boxed<Tree>>
+    fn from_operand<'a>(&self, constants: bool, tokens: &'a [Token]) -> Read<'a, Tree>
         requires { Nests self.now.depth (F.pre self.now.nested) (F.post self.now.nested) }
         ensures { Gives (λ x. (x.0, x.1.now)) result (statements.from_operand (parsed self.now.depth) self.now.depth self.now.takes_do constants tokens.now) }
     {
@@ -134,7 +128,7 @@ impl<
 
     /// A statement without modifiers that is no jump.
     #[tactic(auto, unfolding(crate::specs::Statements::value))]
-    pub fn value<'a>(&self, constants: bool, tokens: &'a [Token]) -> Read<'a, Boxed<Tree>>
+    pub fn value<'a>(&self, constants: bool, tokens: &'a [Token]) -> Read<'a, Tree>
         requires { Nests self.now.depth (F.pre self.now.nested) (F.post self.now.nested) }
         ensures { Gives (λ x. (x.0, x.1.now)) result (statements.value (parsed self.now.depth) self.now.depth self.now.takes_do constants tokens.now) }
     {
@@ -146,7 +140,7 @@ impl<
     }
 
     #[tactic(auto, unfolding(crate::specs::Statements::jump_value))]
-    fn jump_value<'a>(&self, tokens: &'a [Token]) -> Read<'a, Option<Boxed<Tree>>>
+    fn jump_value<'a>(&self, tokens: &'a [Token]) -> Read<'a, Option<Tree>>
         requires { Nests self.now.depth (F.pre self.now.nested) (F.post self.now.nested) }
         ensures { Gives (λ x. (x.0, x.1.now)) result (statements.jump_value (parsed self.now.depth) self.now.depth self.now.takes_do tokens.now) }
     {
@@ -158,7 +152,7 @@ impl<
     }
 
     #[tactic(auto, unfolding(crate::specs::Statements::jump))]
-    fn jump<'a>(&self, word: Jump, tokens: &'a [Token]) -> Read<'a, Boxed<Tree>>
+    fn jump<'a>(&self, word: Jump, tokens: &'a [Token]) -> Read<'a, Tree>
         requires { Nests self.now.depth (F.pre self.now.nested) (F.post self.now.nested) }
         ensures { Gives (λ x. (x.0, x.1.now)) result (statements.jump (parsed self.now.depth) self.now.depth self.now.takes_do word tokens.now) }
     {
@@ -168,17 +162,17 @@ impl<
             start: mark.start,
             end: end_or(mark.end, &value),
         };
-        let tree = Tree::Jump {
+        let node = Node::Jump {
             jump: word,
             value,
             span,
         };
-        Ok((Boxed::new(self.alloc, tree)?, rest))
+        Ok((Tree::new(self.alloc, node)?, rest))
     }
 
     /// A statement without modifiers.
     #[tactic(auto, unfolding(crate::specs::Statements::simple))]
-    pub fn simple<'a>(&self, constants: bool, tokens: &'a [Token]) -> Read<'a, Boxed<Tree>>
+    pub fn simple<'a>(&self, constants: bool, tokens: &'a [Token]) -> Read<'a, Tree>
         requires { Nests self.now.depth (F.pre self.now.nested) (F.post self.now.nested) }
         ensures { Gives (λ x. (x.0, x.1.now)) result (statements.simple (parsed self.now.depth) self.now.depth self.now.takes_do constants tokens.now) }
     {
@@ -190,36 +184,31 @@ impl<
 
     /// A modifier and its condition behind a statement.
     #[tactic(auto, unfolding(crate::specs::Statements::modified))]
-    fn modified<'a>(
-        &self,
-        modifier: Modifier,
-        inner: Boxed<Tree>,
-        tokens: &'a [Token],
-    ) -> Read<'a, Boxed<Tree>>
+    fn modified<'a>(&self, modifier: Modifier, inner: Tree, tokens: &'a [Token]) -> Read<'a, Tree>
         requires { Nests self.now.depth (F.pre self.now.nested) (F.post self.now.nested) }
         ensures { Gives (λ x. (x.0, x.1.now)) result (statements.modified (parsed self.now.depth) self.now.depth self.now.takes_do modifier inner tokens.now) }
     {
         let (_, rest) = take(tokens)?;
         let (condition, rest) = self.form(Form::Simple, self.takes_do, rest)?;
-        let span = across(inner.get(), condition.get());
-        let tree = Tree::Modified {
+        let span = across(&inner, &condition);
+        let node = Node::Modified {
             statement: inner,
             modifier,
             condition,
             span,
         };
-        Ok((Boxed::new(self.alloc, tree)?, rest))
+        Ok((Tree::new(self.alloc, node)?, rest))
     }
 
     /// The modifiers behind a statement.
-    fn modifiers<'a>(&self, inner: Boxed<Tree>, tokens: &'a [Token]) -> Read<'a, Boxed<Tree>>
+    fn modifiers<'a>(&self, inner: Tree, tokens: &'a [Token]) -> Read<'a, Tree>
         requires { Nests self.now.depth (F.pre self.now.nested) (F.post self.now.nested) }
         ensures { Gives (λ x. (x.0, x.1.now)) result (statements.modifiers (parsed self.now.depth) self.now.depth self.now.takes_do inner tokens.now) }
     {
         let mut longest = inner;
         let mut rest = tokens;
         for _turn in 0..self.depth {
-            let Some(modifier) = modifier_behind(longest.get(), peek(rest)) else {
+            let Some(modifier) = modifier_behind(&longest, peek(rest)) else {
                 return Ok((longest, rest));
             };
             let (longer, behind) = self.modified(modifier, longest, rest)?;
@@ -231,7 +220,7 @@ impl<
 
     /// A statement that is no declaration, with its modifiers.
     #[tactic(auto, unfolding(crate::specs::Statements::statement))]
-    pub fn statement<'a>(&self, constants: bool, tokens: &'a [Token]) -> Read<'a, Boxed<Tree>>
+    pub fn statement<'a>(&self, constants: bool, tokens: &'a [Token]) -> Read<'a, Tree>
         requires { Nests self.now.depth (F.pre self.now.nested) (F.post self.now.nested) }
         ensures { Gives (λ x. (x.0, x.1.now)) result (statements.statement (parsed self.now.depth) self.now.depth self.now.takes_do constants tokens.now) }
     {
@@ -239,7 +228,7 @@ impl<
         self.modifiers(inner, rest)
     }
 
-    fn statements<'a>(&self, constants: bool, tokens: &'a [Token]) -> Read<'a, Boxed<Tree>>
+    fn statements<'a>(&self, constants: bool, tokens: &'a [Token]) -> Read<'a, Tree>
         requires { Nests self.now.depth (F.pre self.now.nested) (F.post self.now.nested) }
         ensures { Gives (λ x. (x.0, x.1.now)) result (statements.statements (parsed self.now.depth) self.now.depth self.now.takes_do constants tokens.now) }
     {
@@ -252,7 +241,7 @@ impl<
                 return Ok((body_of(self.alloc, found, Span { start, end })?, rest));
             }
             let (next, behind) = self.statement(constants, rest)?;
-            end = next.get().span().end;
+            end = next.span().end;
             found.push(next)?;
             if !sees(Shape::Separator, behind) {
                 return ended(self.alloc, found, Span { start, end }, behind);
@@ -264,7 +253,7 @@ impl<
 
     /// The longest body without declarations.
     #[tactic(auto, unfolding(crate::specs::Statements::body))]
-    pub fn body<'a>(&self, constants: bool, tokens: &'a [Token]) -> Read<'a, Boxed<Tree>>
+    pub fn body<'a>(&self, constants: bool, tokens: &'a [Token]) -> Read<'a, Tree>
         requires { Nests self.now.depth (F.pre self.now.nested) (F.post self.now.nested) }
         ensures { Gives (λ x. (x.0, x.1.now)) result (statements.body (parsed self.now.depth) self.now.depth self.now.takes_do constants tokens.now) }
     {
@@ -273,24 +262,15 @@ impl<
 }
 
 /// A body of these statements at this place.
-fn body_of(
-    alloc: Global,
-    statements: Items<Boxed<Tree>>,
-    span: Span,
-) -> Result<Boxed<Tree>, NoMemory>
-    ensures { IfOk result (λ body. body ≡ Tree.Body statements span) }
+fn body_of(alloc: Global, statements: Items<Tree>, span: Span) -> Result<Tree, NoMemory>
+    ensures { IfOk result (λ body. body ≡ tree.Body statements span) }
 {
-    Boxed::new(alloc, Tree::Body { statements, span })
+    Tree::new(alloc, Node::Body { statements, span })
 }
 
 /// The body of these statements, which ends behind the last. A `rescue` doesn't stand there without a separator.
 #[tactic(auto, unfolding(crate::specs::Statements::ended))]
-fn ended<'a>(
-    alloc: Global,
-    found: Items<Boxed<Tree>>,
-    span: Span,
-    tokens: &'a [Token],
-) -> Read<'a, Boxed<Tree>>
+fn ended<'a>(alloc: Global, found: Items<Tree>, span: Span, tokens: &'a [Token]) -> Read<'a, Tree>
     ensures { Gives (λ x. (x.0, x.1.now)) result (statements.ended found span tokens.now) }
 {
     if sees(Shape::Rescue, tokens) {

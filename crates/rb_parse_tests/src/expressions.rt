@@ -91,9 +91,9 @@ fn all_told<R: Abort + AllocGlobal>(rt: &R, rows: &[(&str, &str)]) -> Result<(),
         let answer = told(rt.alloc(), source)?;
         let answer = answer.as_str();
         let one = answer
-            .strip_prefix("Body(([(")
+            .strip_prefix("(Body(([(")
             .unwrap_or(answer)
-            .strip_suffix(")]))")
+            .strip_suffix(")])))")
             .unwrap_or(answer);
         assert!(rt; one == *expected, "{source}: {one}");
     }
@@ -445,7 +445,7 @@ fn two_hundred_levels(rt: HostRuntime) -> Result<(), Fail> {
     for (first, middle, last) in NESTED {
         let source = repeated(rt.alloc(), 200, first, middle, last)?;
         let answer = told(rt.alloc(), source.as_str())?;
-        assert!(rt; answer.as_str().starts_with("Body("), "{source}");
+        assert!(rt; answer.as_str().starts_with("(Body("), "{source}");
         let source = repeated(rt.alloc(), 201, first, middle, last)?;
         let answer = told(rt.alloc(), source.as_str())?;
         assert!(rt; answer.as_str().starts_with("deep "), "{source}");

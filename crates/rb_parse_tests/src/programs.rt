@@ -4,7 +4,7 @@ use crate::guards::{PROGRAMS, REFUSED_PROGRAMS};
 use rb_decl::parse;
 use rb_expr::ParseEnd;
 use rb_lex::{LexEnd, lex};
-use rb_tree::syntax::{Tree, Visibility};
+use rb_tree::syntax::{Node, Tree, Visibility};
 use srb_terms::ParamKind;
 use srb_text::Text;
 use std::alloc::Global;
@@ -299,7 +299,10 @@ fn usual_class(rt: HostRuntime) -> Result<(), Fail> {
 #[test]
 fn trees_hold_what_is_written(rt: HostRuntime) -> Result<(), Fail> {
     let source = "class A::B < ::C\n  x\n  private def y=(v, w: 1)\n  end\nend";
-    let Ok(Tree::Body { statements, span }) = parsed(rt.alloc(), source)? else {
+    let Ok(program) = parsed(rt.alloc(), source)? else {
+        return Err(Fail::from("no tree"));
+    };
+    let Node::Body { statements, span } = program.get() else {
         return Err(Fail::from("no body"));
     };
     assert!(&rt;
@@ -309,7 +312,7 @@ fn trees_hold_what_is_written(rt: HostRuntime) -> Result<(), Fail> {
     let Some(class) = statements.get(0) else {
         return Err(Fail::from("no statement"));
     };
-    let Tree::Class {
+    let Node::Class {
         path,
         superclass: Some(superclass),
         body,
@@ -331,7 +334,7 @@ fn trees_hold_what_is_written(rt: HostRuntime) -> Result<(), Fail> {
         span.start == 0 && span.end as usize == source.len(),
         "span of the class"
     );
-    let Tree::Body { statements, span } = body.get() else {
+    let Node::Body { statements, span } = body.get() else {
         return Err(Fail::from("no body of the class"));
     };
     assert!(&rt;
@@ -341,7 +344,7 @@ fn trees_hold_what_is_written(rt: HostRuntime) -> Result<(), Fail> {
     let Some(method) = statements.get(1) else {
         return Err(Fail::from("no method"));
     };
-    let Tree::Def {
+    let Node::Def {
         visibility,
         own,
         name,
@@ -377,18 +380,21 @@ fn trees_hold_what_is_written(rt: HostRuntime) -> Result<(), Fail> {
 #[test]
 fn methods_hold_their_guards(rt: HostRuntime) -> Result<(), Fail> {
     let source = "def m; 1; rescue A, B => e; 2; else; 3; ensure; 4; end";
-    let Ok(Tree::Body { statements, .. }) = parsed(rt.alloc(), source)? else {
+    let Ok(program) = parsed(rt.alloc(), source)? else {
+        return Err(Fail::from("no tree"));
+    };
+    let Node::Body { statements, .. } = program.get() else {
         return Err(Fail::from("no body"));
     };
     let Some(method) = statements.get(0) else {
         return Err(Fail::from("no statement"));
     };
-    let Tree::Def { guarded, span, .. } = method.get() else {
+    let Node::Def { guarded, span, .. } = method.get() else {
         return Err(Fail::from("no def"));
     };
     assert!(&rt; span.start == 0 && span.end == 54, "span of the method");
     let guarded = guarded.get();
-    let body = guarded.body.get().span();
+    let body = guarded.body.span();
     assert!(&rt; body.start == 7 && body.end == 8, "body");
     assert!(&rt;
         guarded.otherwise.is_some() && guarded.ensure.is_some() && guarded.rescues.len() == 1,

@@ -4,8 +4,9 @@ use Rattle.rb_tree.specs.declared.token.Shape.{Shape}
 use Rattle.rb_tree.specs.declared.token.Shape.TheVariants as shape
 use Rattle.srb_terms.specs.declared.param_kind.ParamKind.{ParamKind}
 use Rattle.srb_terms.specs.declared.param_kind.ParamKind.TheVariants as param_kind
-use Rattle.rb_tree.specs.declared.syntax.Tree.{Tree, out-Tree}
-use Rattle.rb_tree.specs.declared.syntax.Tree.TheOpen.{Tree-F}
+use Rattle.rb_tree.specs.declared.syntax.Tree.{Tree}
+use Rattle.rb_tree.specs.declared.syntax.Node.{out-Node}
+use Rattle.rb_tree.specs.declared.syntax.Node.TheOpen.{Node-F}
 use Rattle.rb_tree.specs.declared.syntax.Binary.{Binary}
 use Rattle.rb_tree.specs.declared.syntax.Binary.TheVariants as binary
 use Rattle.rb_tree.specs.declared.syntax.Argument.{Argument}
@@ -95,12 +96,12 @@ NO_COMMAND =
     ∷ shape.Scope ∷ shape.ShiftLeft ∷ shape.OpenParen ∷ shape.OpenBrace ∷ MODIFIERS
 
 -- a `begin` with its `end` alone
-abbrev pub is_begin_at : {X : Type 0} → Tree-F X → Bool
-is_begin_at (Tree-F.Begin guarded span) = true
+abbrev pub is_begin_at : {X Y : Type 0} → Node-F X Y → Bool
+is_begin_at (Node-F.Begin guarded span) = true
 is_begin_at other = false
 
 unfoldable pub is_begin : Tree → Bool
-is_begin t = is_begin_at (out-Tree t)
+is_begin t = is_begin_at (out-Node t.node)
 
 -- the words of modifiers that make a loop of what stands in front
 abbrev pub repeats : Modifier → Bool

@@ -9,7 +9,7 @@ use Rattle.rb_tree.specs.declared.token.Token.{Token}
 use Rattle.rb_tree.specs.declared.token.Shape.{Shape}
 use Rattle.rb_tree.specs.declared.token.Shape.TheVariants as shape
 use Rattle.rb_tree.specs.declared.syntax.Tree.{Tree}
-use Rattle.rb_tree.specs.declared.syntax.Tree.TheVariants as tree
+use Rattle.rb_tree.specs.Nodes as tree
 use Rattle.rb_tree.specs.declared.syntax.Modifier.{Modifier}
 use Rattle.rb_tree.specs.declared.syntax.Modifier.TheVariants as modifier
 use Rattle.rb_tree.specs.declared.syntax.Jump.{Jump}

@@ -5,61 +5,70 @@
 //! arguments, arms, pieces of a string) is a flat list, in the order of the text. Brackets, separators and keywords are
 //! not kept, but where a node's kind or a field says that they stood.
 
-ghost use Rattle.std.specs.Prelude.{◌≡◌};
-ghost use Rattle.rb_tree.specs.Trees.{span_of};
+ghost use Rattle.std.specs.Prelude.{◌≡◌, IfOk};
+ghost use Rattle.rb_tree.specs.Trees.{span_of, span_of_node};
 
-use srb_terms::{Boxed, Items, Name, ParamKind, Span, Words};
+use srb_terms::{Boxed, Items, Name, NoMemory, ParamKind, Span, Words};
+use std::alloc::Global;
+use std::fmt;
 
-/// A tree of source.
-#[derive(Debug, Drop)]
-pub enum Tree {
+/// A tree of source. Copies share it.
+#[cycle(trees)]
+pub struct Tree {
+    pub node: Boxed<Node>,
+}
+
+/// What a tree is, and its parts.
+#[cycle(trees)]
+#[derive(Debug)]
+pub enum Node {
     /// Statements in a row. The span goes from the first to the last; that of an empty body is 0 to 0.
     Body {
-        statements: Items<Boxed<Tree>>,
+        statements: Items<Tree>,
         span: Span,
     },
     /// A statement with a modifier behind it, as `a if b`. Several modifiers nest to the left.
     Modified {
-        statement: Boxed<Tree>,
+        statement: Tree,
         modifier: Modifier,
-        condition: Boxed<Tree>,
+        condition: Tree,
         span: Span,
     },
     /// `return`, `break` or `next`, perhaps with a value. The word begins where the span does.
     Jump {
         jump: Jump,
-        value: Option<Boxed<Tree>>,
+        value: Option<Tree>,
         span: Span,
     },
     /// `target = value`. The target is a `Name`, an `InstanceVariable`, a `Constant`, or a `Post` whose last suffix is a
     /// plain call by `.` or an index.
     Assign {
-        target: Boxed<Tree>,
-        value: Boxed<Tree>,
+        target: Tree,
+        value: Tree,
         span: Span,
     },
     /// `target += value` and the like. The target is as in `Assign`, but no `Constant`.
     OperatorAssign {
-        target: Boxed<Tree>,
+        target: Tree,
         operator: Binary,
         /// The place of the operator's token.
         operator_span: Span,
-        value: Boxed<Tree>,
+        value: Tree,
         span: Span,
     },
     /// A call with arguments and no brackets, as `puts a` or `b.push c do |d| d end`. The callee is a `Name`, a plain
     /// `Yield` or `Super`, or a `Post` whose last suffix is a plain call.
     Command {
-        callee: Boxed<Tree>,
-        arguments: Items<Argument<Boxed<Tree>>>,
-        block: Option<Boxed<Block<Boxed<Tree>>>>,
+        callee: Tree,
+        arguments: Items<Argument<Tree>>,
+        block: Option<Boxed<Block<Tree>>>,
         span: Span,
     },
     /// `condition ? positive : negative`.
     Conditional {
-        condition: Boxed<Tree>,
-        positive: Boxed<Tree>,
-        negative: Boxed<Tree>,
+        condition: Tree,
+        positive: Tree,
+        negative: Tree,
         span: Span,
     },
     /// An operator between two operands.
@@ -67,20 +76,20 @@ pub enum Tree {
         operator: Binary,
         /// The place of the operator's token.
         operator_span: Span,
-        left: Boxed<Tree>,
-        right: Boxed<Tree>,
+        left: Tree,
+        right: Tree,
         span: Span,
     },
     /// An operator in front of its operand. It begins where the span does, and is one byte long.
     Unary {
         operator: Unary,
-        operand: Boxed<Tree>,
+        operand: Tree,
         span: Span,
     },
     /// An operand with at least one suffix. The receiver is no `Post`.
     Post {
-        receiver: Boxed<Tree>,
-        suffixes: Items<Suffix<Boxed<Tree>>>,
+        receiver: Tree,
+        suffixes: Items<Suffix<Tree>>,
         span: Span,
     },
     /// A whole number as it is written, with the sign that touches it.
@@ -97,7 +106,7 @@ pub enum Tree {
     },
     /// A string. Words and interpolations take turns, and words begin and end.
     Text {
-        pieces: Items<Piece<Boxed<Tree>>>,
+        pieces: Items<Piece<Tree>>,
         span: Span,
     },
     /// A symbol. The words are what stands behind the `:`.
@@ -148,77 +157,77 @@ pub enum Tree {
         name: Name,
         /// The place of the name.
         name_span: Span,
-        arguments: Option<Items<Argument<Boxed<Tree>>>>,
-        block: Option<Boxed<Block<Boxed<Tree>>>>,
+        arguments: Option<Items<Argument<Tree>>>,
+        block: Option<Boxed<Block<Tree>>>,
         span: Span,
     },
     /// `yield`. The arguments are `None` where no brackets stand.
     Yield {
-        arguments: Option<Items<Argument<Boxed<Tree>>>>,
+        arguments: Option<Items<Argument<Tree>>>,
         span: Span,
     },
     /// `super`. The arguments are `None` where no brackets stand.
     Super {
-        arguments: Option<Items<Argument<Boxed<Tree>>>>,
+        arguments: Option<Items<Argument<Tree>>>,
         span: Span,
     },
     /// `[a, b]`.
     Array {
-        elements: Items<Boxed<Tree>>,
+        elements: Items<Tree>,
         span: Span,
     },
     /// `{a => b, c: d}`.
     Hash {
-        pairs: Items<Pair<Boxed<Tree>>>,
+        pairs: Items<Pair<Tree>>,
         span: Span,
     },
     /// `(body)`.
     Parens {
-        body: Boxed<Tree>,
+        body: Tree,
         span: Span,
     },
     /// `if` and `unless` with their `end`.
     If {
         test: Test,
-        condition: Boxed<Tree>,
-        body: Boxed<Tree>,
+        condition: Tree,
+        body: Tree,
         /// The `elsif` arms.
-        arms: Items<Arm<Boxed<Tree>>>,
+        arms: Items<Arm<Tree>>,
         /// What stands behind `else`.
-        otherwise: Option<Boxed<Tree>>,
+        otherwise: Option<Tree>,
         span: Span,
     },
     /// `while` and `until` with their `end`.
     While {
         test: Test,
-        condition: Boxed<Tree>,
-        body: Boxed<Tree>,
+        condition: Tree,
+        body: Tree,
         span: Span,
     },
     /// `case` with its `end`. There is at least one arm.
     Case {
-        subject: Option<Boxed<Tree>>,
-        arms: Items<When<Boxed<Tree>>>,
+        subject: Option<Tree>,
+        arms: Items<When<Tree>>,
         /// What stands behind `else`.
-        otherwise: Option<Boxed<Tree>>,
+        otherwise: Option<Tree>,
         span: Span,
     },
     /// `begin` with its `end`.
     Begin {
-        guarded: Boxed<Guarded<Boxed<Tree>>>,
+        guarded: Boxed<Guarded<Tree>>,
         span: Span,
     },
     /// `class`.
     Class {
         path: Items<PlacedName>,
         superclass: Option<Boxed<Reference>>,
-        body: Boxed<Tree>,
+        body: Tree,
         span: Span,
     },
     /// `module`.
     Module {
         path: Items<PlacedName>,
-        body: Boxed<Tree>,
+        body: Tree,
         span: Span,
     },
     /// `def`, perhaps with a visibility in front.
@@ -230,8 +239,8 @@ pub enum Tree {
         name: Name,
         /// The place of the name's tokens.
         name_span: Span,
-        parameters: Items<Parameter<Boxed<Tree>>>,
-        guarded: Boxed<Guarded<Boxed<Tree>>>,
+        parameters: Items<Parameter<Tree>>,
+        guarded: Boxed<Guarded<Tree>>,
         span: Span,
     },
 }
@@ -490,48 +499,324 @@ pub struct Parameter<T> {
     pub default: Option<T>,
 }
 
+// A tree is printed as the box of its node.
+impl fmt::Debug for Tree {
+    #[cycle(prints)]
+    fn fmt<W: fmt::Write>(&self, f: &mut fmt::Formatter<W>) -> fmt::Result {
+        self.node.fmt(f)
+    }
+}
+
+impl Drop for Tree {
+    #[cycle(drops)]
+    fn drop(self) {
+        let Tree { node } = self;
+        drop(node);
+    }
+}
+
+impl Drop for Node {
+    #[cycle(drops)]
+    fn drop(self) {
+        match self {
+            Node::Body {
+                statements,
+                span: _,
+            } => {
+                drop(statements);
+            }
+            Node::Modified {
+                statement,
+                modifier: _,
+                condition,
+                span: _,
+            } => {
+                drop(statement);
+                drop(condition);
+            }
+            Node::Jump {
+                jump: _,
+                value,
+                span: _,
+            } => {
+                drop(value);
+            }
+            Node::Assign {
+                target,
+                value,
+                span: _,
+            } => {
+                drop(target);
+                drop(value);
+            }
+            Node::OperatorAssign {
+                target,
+                operator: _,
+                operator_span: _,
+                value,
+                span: _,
+            } => {
+                drop(target);
+                drop(value);
+            }
+            Node::Command {
+                callee,
+                arguments,
+                block,
+                span: _,
+            } => {
+                drop(callee);
+                drop(arguments);
+                drop(block);
+            }
+            Node::Conditional {
+                condition,
+                positive,
+                negative,
+                span: _,
+            } => {
+                drop(condition);
+                drop(positive);
+                drop(negative);
+            }
+            Node::Binary {
+                operator: _,
+                operator_span: _,
+                left,
+                right,
+                span: _,
+            } => {
+                drop(left);
+                drop(right);
+            }
+            Node::Unary {
+                operator: _,
+                operand,
+                span: _,
+            } => {
+                drop(operand);
+            }
+            Node::Post {
+                receiver,
+                suffixes,
+                span: _,
+            } => {
+                drop(receiver);
+                drop(suffixes);
+            }
+            Node::Whole {
+                sign: _,
+                words,
+                span: _,
+            } => {
+                drop(words);
+            }
+            Node::Float {
+                sign: _,
+                words,
+                span: _,
+            } => {
+                drop(words);
+            }
+            Node::Text { pieces, span: _ } => {
+                drop(pieces);
+            }
+            Node::Symbol { words, span: _ } => {
+                drop(words);
+            }
+            Node::InstanceVariable { name, span: _ } => {
+                drop(name);
+            }
+            Node::Constant { name, span: _ } => {
+                drop(name);
+            }
+            Node::TopConstant {
+                name,
+                name_span: _,
+                span: _,
+            } => {
+                drop(name);
+            }
+            Node::Name { name, span: _ } => {
+                drop(name);
+            }
+            Node::Call {
+                name,
+                name_span: _,
+                arguments,
+                block,
+                span: _,
+            } => {
+                drop(name);
+                drop(arguments);
+                drop(block);
+            }
+            Node::Yield { arguments, span: _ } => {
+                drop(arguments);
+            }
+            Node::Super { arguments, span: _ } => {
+                drop(arguments);
+            }
+            Node::Array { elements, span: _ } => {
+                drop(elements);
+            }
+            Node::Hash { pairs, span: _ } => {
+                drop(pairs);
+            }
+            Node::Parens { body, span: _ } => {
+                drop(body);
+            }
+            Node::If {
+                test: _,
+                condition,
+                body,
+                arms,
+                otherwise,
+                span: _,
+            } => {
+                drop(condition);
+                drop(body);
+                drop(arms);
+                drop(otherwise);
+            }
+            Node::While {
+                test: _,
+                condition,
+                body,
+                span: _,
+            } => {
+                drop(condition);
+                drop(body);
+            }
+            Node::Case {
+                subject,
+                arms,
+                otherwise,
+                span: _,
+            } => {
+                drop(subject);
+                drop(arms);
+                drop(otherwise);
+            }
+            Node::Begin { guarded, span: _ } => {
+                drop(guarded);
+            }
+            Node::Class {
+                path,
+                superclass,
+                body,
+                span: _,
+            } => {
+                drop(path);
+                drop(superclass);
+                drop(body);
+            }
+            Node::Module {
+                path,
+                body,
+                span: _,
+            } => {
+                drop(path);
+                drop(body);
+            }
+            Node::Def {
+                visibility: _,
+                own: _,
+                name,
+                name_span: _,
+                parameters,
+                guarded,
+                span: _,
+            } => {
+                drop(name);
+                drop(parameters);
+                drop(guarded);
+            }
+            Node::SelfWord { span: _ }
+            | Node::Nil { span: _ }
+            | Node::True { span: _ }
+            | Node::False { span: _ } => {}
+        }
+    }
+}
+
 impl Tree {
+    /// The tree of a node. Without memory the node is dropped.
+    pub fn new(alloc: Global, node: Node) -> Result<Tree, NoMemory>
+        ensures { IfOk result (λ tree. tree.node ≡ node) }
+    {
+        Ok(Tree {
+            node: Boxed::new(alloc, node)?,
+        })
+    }
+
+    /// What this tree is.
+    pub fn get(&self) -> &Node
+        ensures { result.now ≡ self.now.node }
+    {
+        self.node.get()
+    }
+
+    /// A copy that shares the tree. It takes no memory, and fails only at 2^63 copies.
+    pub fn copied(&self) -> Result<Tree, NoMemory>
+        ensures { IfOk result (λ tree. tree ≡ self.now) }
+    {
+        Ok(Tree {
+            node: self.node.copied()?,
+        })
+    }
+
     /// The place of this tree.
     #[tactic(auto, unfolding(crate::specs::Trees::span_of))]
     pub fn span(&self) -> Span
         ensures { result ≡ span_of self.now }
     {
+        self.get().span()
+    }
+}
+
+impl Node {
+    /// The place of the tree that is this.
+    #[tactic(auto, unfolding(crate::specs::Trees::span_of_node))]
+    pub fn span(&self) -> Span
+        ensures { result ≡ span_of_node self.now }
+    {
         match self {
-            Tree::Body { span, .. }
-            | Tree::Modified { span, .. }
-            | Tree::Jump { span, .. }
-            | Tree::Assign { span, .. }
-            | Tree::OperatorAssign { span, .. }
-            | Tree::Command { span, .. }
-            | Tree::Conditional { span, .. }
-            | Tree::Binary { span, .. }
-            | Tree::Unary { span, .. }
-            | Tree::Post { span, .. }
-            | Tree::Whole { span, .. }
-            | Tree::Float { span, .. }
-            | Tree::Text { span, .. }
-            | Tree::Symbol { span, .. }
-            | Tree::InstanceVariable { span, .. }
-            | Tree::Constant { span, .. }
-            | Tree::TopConstant { span, .. }
-            | Tree::SelfWord { span }
-            | Tree::Nil { span }
-            | Tree::True { span }
-            | Tree::False { span }
-            | Tree::Name { span, .. }
-            | Tree::Call { span, .. }
-            | Tree::Yield { span, .. }
-            | Tree::Super { span, .. }
-            | Tree::Array { span, .. }
-            | Tree::Hash { span, .. }
-            | Tree::Parens { span, .. }
-            | Tree::If { span, .. }
-            | Tree::While { span, .. }
-            | Tree::Case { span, .. }
-            | Tree::Begin { span, .. }
-            | Tree::Class { span, .. }
-            | Tree::Module { span, .. }
-            | Tree::Def { span, .. } => *span,
+            Node::Body { span, .. }
+            | Node::Modified { span, .. }
+            | Node::Jump { span, .. }
+            | Node::Assign { span, .. }
+            | Node::OperatorAssign { span, .. }
+            | Node::Command { span, .. }
+            | Node::Conditional { span, .. }
+            | Node::Binary { span, .. }
+            | Node::Unary { span, .. }
+            | Node::Post { span, .. }
+            | Node::Whole { span, .. }
+            | Node::Float { span, .. }
+            | Node::Text { span, .. }
+            | Node::Symbol { span, .. }
+            | Node::InstanceVariable { span, .. }
+            | Node::Constant { span, .. }
+            | Node::TopConstant { span, .. }
+            | Node::SelfWord { span }
+            | Node::Nil { span }
+            | Node::True { span }
+            | Node::False { span }
+            | Node::Name { span, .. }
+            | Node::Call { span, .. }
+            | Node::Yield { span, .. }
+            | Node::Super { span, .. }
+            | Node::Array { span, .. }
+            | Node::Hash { span, .. }
+            | Node::Parens { span, .. }
+            | Node::If { span, .. }
+            | Node::While { span, .. }
+            | Node::Case { span, .. }
+            | Node::Begin { span, .. }
+            | Node::Class { span, .. }
+            | Node::Module { span, .. }
+            | Node::Def { span, .. } => *span,
         }
     }
 }

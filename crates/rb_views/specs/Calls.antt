@@ -9,8 +9,9 @@ use Rattle.rb_tree.specs.declared.syntax.Dot.{Dot}
 use Rattle.rb_tree.specs.declared.syntax.Dot.TheVariants as dot
 use Rattle.rb_tree.specs.declared.syntax.Suffix.{Suffix}
 use Rattle.rb_tree.specs.declared.syntax.Suffix.TheVariants as suffix
-use Rattle.rb_tree.specs.declared.syntax.Tree.{Tree, out-Tree}
-use Rattle.rb_tree.specs.declared.syntax.Tree.TheOpen.{Tree-F}
+use Rattle.rb_tree.specs.declared.syntax.Tree.{Tree}
+use Rattle.rb_tree.specs.declared.syntax.Node.{Node, out-Node}
+use Rattle.rb_tree.specs.declared.syntax.Node.TheOpen.{Node-F}
 use Rattle.rb_views.specs.Places.{open_bracket}
 use Rattle.rb_views.specs.Prefixes.{Prefix, seen_prefix, last_suffix, without_last, up_to_suffix}
 use Rattle.rb_views.specs.Targets as targets
@@ -114,13 +115,13 @@ command _ arguments block span = None
 
 -- ---- trees
 
-abbrev pub call_at : Tree-F Tree → Option Call
-call_at (Tree-F.Name name span) = Some (own_call name span [] None span true)
-call_at (Tree-F.Call name name_span arguments block span) = Some (own_call name name_span (arguments_of arguments) block span false)
-call_at (Tree-F.Post receiver suffixes span) = call_of_row (record { operand = receiver; suffixes = suffixes })
-call_at (Tree-F.Command callee arguments block span) = command (targets.callee_of callee) arguments block span
+abbrev pub call_at : Node-F Node Tree → Option Call
+call_at (Node-F.Name name span) = Some (own_call name span [] None span true)
+call_at (Node-F.Call name name_span arguments block span) = Some (own_call name name_span (arguments_of arguments) block span false)
+call_at (Node-F.Post receiver suffixes span) = call_of_row (record { operand = receiver; suffixes = suffixes })
+call_at (Node-F.Command callee arguments block span) = command (targets.callee_of callee) arguments block span
 call_at _ = None
 
 -- the call that a tree is; None for any other tree. `yield`, `super` and operators are no calls here
 unfoldable pub call_of : Tree → Option Call
-call_of t = call_at (out-Tree t)
+call_of t = call_at (out-Node t.node)

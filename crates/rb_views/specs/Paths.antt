@@ -5,8 +5,9 @@ use Rattle.rb_tree.specs.declared.syntax.PlacedName.{PlacedName}
 use Rattle.rb_tree.specs.declared.syntax.Reference.{Reference}
 use Rattle.rb_tree.specs.declared.syntax.Suffix.{Suffix}
 use Rattle.rb_tree.specs.declared.syntax.Suffix.TheVariants as suffix
-use Rattle.rb_tree.specs.declared.syntax.Tree.{Tree, out-Tree}
-use Rattle.rb_tree.specs.declared.syntax.Tree.TheOpen.{Tree-F}
+use Rattle.rb_tree.specs.declared.syntax.Tree.{Tree}
+use Rattle.rb_tree.specs.declared.syntax.Node.{out-Node}
+use Rattle.rb_tree.specs.declared.syntax.Node.TheOpen.{Node-F}
 use Rattle.rb_views.specs.Places.{names_span}
 use Rattle.rb_views.specs.Prefixes.{Prefix, prefix_of}
 use Rattle.rb_views.specs.declared.path.Path as lent
@@ -53,14 +54,14 @@ path_from top name name_span span suffixes = record {
   rest = after_constants suffixes;
 }
 
-abbrev pub path_at : {X : Type 0} → Tree-F X → List (Suffix Tree) → Option Path
-path_at (Tree-F.Constant name span) suffixes = Some (path_from false name span span suffixes)
-path_at (Tree-F.TopConstant name name_span span) suffixes = Some (path_from true name name_span span suffixes)
+abbrev pub path_at : {X Y : Type 0} → Node-F X Y → List (Suffix Tree) → Option Path
+path_at (Node-F.Constant name span) suffixes = Some (path_from false name span span suffixes)
+path_at (Node-F.TopConstant name name_span span) suffixes = Some (path_from true name name_span span suffixes)
 path_at _ suffixes = None
 
 -- the longest path with which a prefix begins; None where it begins with no constant
 unfoldable pub path_of_prefix : Prefix → Option Path
-path_of_prefix p = path_at (out-Tree p.operand) p.suffixes
+path_of_prefix p = path_at (out-Node p.operand.node) p.suffixes
 
 -- the longest path with which a tree begins
 unfoldable pub path_of : Tree → Option Path

@@ -4,8 +4,9 @@ use Rattle.srb_terms.specs.declared.span.Span.{Span}
 use Rattle.rb_tree.specs.Trees.{span_of}
 use Rattle.rb_tree.specs.declared.syntax.Suffix.{Suffix}
 use Rattle.rb_tree.specs.declared.syntax.Suffix.TheVariants as suffix
-use Rattle.rb_tree.specs.declared.syntax.Tree.{Tree, out-Tree}
-use Rattle.rb_tree.specs.declared.syntax.Tree.TheOpen.{Tree-F}
+use Rattle.rb_tree.specs.declared.syntax.Tree.{Tree}
+use Rattle.rb_tree.specs.declared.syntax.Node.{Node, out-Node}
+use Rattle.rb_tree.specs.declared.syntax.Node.TheOpen.{Node-F}
 use Rattle.rb_views.specs.declared.prefix.Prefix as lent
 
 -- an operand and a row of suffixes after it, perhaps none
@@ -17,13 +18,13 @@ pub record Prefix : Type 0 where
 abbrev pub seen_prefix : lent.Prefix → Prefix
 seen_prefix p = record { operand = p.operand.now; suffixes = p.suffixes.now }
 
-abbrev pub whole_at : Tree → Tree-F Tree → Prefix
-whole_at t (Tree-F.Post receiver suffixes span) = record { operand = receiver; suffixes = suffixes }
+abbrev pub whole_at : Tree → Node-F Node Tree → Prefix
+whole_at t (Node-F.Post receiver suffixes span) = record { operand = receiver; suffixes = suffixes }
 whole_at t _ = record { operand = t; suffixes = [] }
 
 -- the prefix of a whole tree: all suffixes of a `Post`, and any other tree with none
 unfoldable pub prefix_of : Tree → Prefix
-prefix_of t = whole_at t (out-Tree t)
+prefix_of t = whole_at t (out-Node t.node)
 
 -- the prefix with the first so many suffixes
 abbrev pub first_suffixes : ℕ → Prefix → Prefix

@@ -6,8 +6,9 @@ use Rattle.rb_tree.specs.declared.syntax.Dot.{Dot}
 use Rattle.rb_tree.specs.declared.syntax.Dot.TheVariants as dot
 use Rattle.rb_tree.specs.declared.syntax.Suffix.{Suffix}
 use Rattle.rb_tree.specs.declared.syntax.Suffix.TheVariants as suffix
-use Rattle.rb_tree.specs.declared.syntax.Tree.{Tree, out-Tree}
-use Rattle.rb_tree.specs.declared.syntax.Tree.TheOpen.{Tree-F}
+use Rattle.rb_tree.specs.declared.syntax.Tree.{Tree}
+use Rattle.rb_tree.specs.declared.syntax.Node.{Node, out-Node}
+use Rattle.rb_tree.specs.declared.syntax.Node.TheOpen.{Node-F}
 use Rattle.rb_views.specs.Places.{open_bracket}
 use Rattle.rb_views.specs.Prefixes.{Prefix, seen_prefix, last_suffix, without_last}
 use Rattle.rb_views.specs.declared.target.Callee as lent_callee
@@ -40,16 +41,16 @@ target_by p _ = None
 abbrev pub target_last : Prefix → Option Target
 target_last p = target_by (without_last p) (last_suffix p.suffixes)
 
-abbrev pub target_at : Tree-F Tree → Option Target
-target_at (Tree-F.Name name span) = Some (Variable name span)
-target_at (Tree-F.InstanceVariable name span) = Some (InstanceVariable name span)
-target_at (Tree-F.Constant name span) = Some (Constant name span)
-target_at (Tree-F.Post receiver suffixes span) = target_last (record { operand = receiver; suffixes = suffixes })
+abbrev pub target_at : Node-F Node Tree → Option Target
+target_at (Node-F.Name name span) = Some (Variable name span)
+target_at (Node-F.InstanceVariable name span) = Some (InstanceVariable name span)
+target_at (Node-F.Constant name span) = Some (Constant name span)
+target_at (Node-F.Post receiver suffixes span) = target_last (record { operand = receiver; suffixes = suffixes })
 target_at _ = None
 
 -- what is assigned to by an assignment whose target is this tree; None where the tree is no target
 unfoldable pub target_of : Tree → Option Target
-target_of t = target_at (out-Tree t)
+target_of t = target_at (out-Node t.node)
 
 -- what a lent target is
 abbrev pub seen_target : lent_target.Target → Target
@@ -79,16 +80,16 @@ callee_by p _ = None
 abbrev pub callee_last : Prefix → Option Callee
 callee_last p = callee_by (without_last p) (last_suffix p.suffixes)
 
-abbrev pub callee_at : Tree-F Tree → Option Callee
-callee_at (Tree-F.Name name span) = Some (Name name span)
-callee_at (Tree-F.Yield None span) = Some Yield
-callee_at (Tree-F.Super None span) = Some Super
-callee_at (Tree-F.Post receiver suffixes span) = callee_last (record { operand = receiver; suffixes = suffixes })
+abbrev pub callee_at : Node-F Node Tree → Option Callee
+callee_at (Node-F.Name name span) = Some (Name name span)
+callee_at (Node-F.Yield None span) = Some Yield
+callee_at (Node-F.Super None span) = Some Super
+callee_at (Node-F.Post receiver suffixes span) = callee_last (record { operand = receiver; suffixes = suffixes })
 callee_at _ = None
 
 -- what a command calls whose callee is this tree; None where the tree is no callee
 unfoldable pub callee_of : Tree → Option Callee
-callee_of t = callee_at (out-Tree t)
+callee_of t = callee_at (out-Node t.node)
 
 -- what a lent callee is
 abbrev pub seen_callee : lent_callee.Callee → Callee

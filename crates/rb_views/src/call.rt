@@ -9,7 +9,7 @@ ghost use Rattle.rb_views.specs.Targets.{seen_callee};
 use crate::place::open_bracket;
 use crate::prefix::{Prefix, suffix_span};
 use crate::target::Callee;
-use rb_tree::syntax::{Argument, Block, Dot, Suffix, Tree};
+use rb_tree::syntax::{Argument, Block, Dot, Node, Suffix, Tree};
 use srb_terms::{Boxed, Items, Span};
 
 /// What a call is called on, and how it is joined. An index is joined plainly.
@@ -28,8 +28,8 @@ pub struct Call<'a> {
     pub name: &'a str,
     /// The place of the name, of an index that of its `[`.
     pub name_span: Span,
-    pub arguments: &'a [Argument<Boxed<Tree>>],
-    pub block: Option<&'a Block<Boxed<Tree>>>,
+    pub arguments: &'a [Argument<Tree>],
+    pub block: Option<&'a Block<Tree>>,
     /// From the receiver to the end of what belongs to the call.
     pub span: Span,
     /// Whether it is a name alone, which is a variable where its body has one of this name.
@@ -37,9 +37,7 @@ pub struct Call<'a> {
 }
 
 /// Arguments in brackets; none where no brackets stand.
-fn arguments_of<'a>(
-    arguments: &'a Option<Items<Argument<Boxed<Tree>>>>,
-) -> &'a [Argument<Boxed<Tree>>]
+fn arguments_of<'a>(arguments: &'a Option<Items<Argument<Tree>>>) -> &'a [Argument<Tree>]
     ensures { result.now ≡ spec.arguments_of arguments.now }
 {
     match arguments {
@@ -49,7 +47,7 @@ fn arguments_of<'a>(
 }
 
 /// A block out of its box.
-fn block_of<'a>(block: &'a Option<Boxed<Block<Boxed<Tree>>>>) -> Option<&'a Block<Boxed<Tree>>>
+fn block_of<'a>(block: &'a Option<Boxed<Block<Tree>>>) -> Option<&'a Block<Tree>>
     ensures { option_copied result ≡ block.now }
 {
     match block {
@@ -59,7 +57,7 @@ fn block_of<'a>(block: &'a Option<Boxed<Block<Boxed<Tree>>>>) -> Option<&'a Bloc
 }
 
 /// The place of a prefix with one more suffix.
-fn span_with<'a>(prefix: Prefix<'a>, suffix: &Suffix<Boxed<Tree>>) -> Span
+fn span_with<'a>(prefix: Prefix<'a>, suffix: &Suffix<Tree>) -> Span
     ensures { result ≡ spec.span_with (seen_prefix prefix.entry) suffix.now }
 {
     Span {
@@ -70,7 +68,7 @@ fn span_with<'a>(prefix: Prefix<'a>, suffix: &Suffix<Boxed<Tree>>) -> Span
 
 impl<'a> Call<'a> {
     /// The call that a suffix is after a prefix. `None` exactly for a constant.
-    pub fn by(prefix: Prefix<'a>, suffix: &'a Suffix<Boxed<Tree>>) -> Option<Call<'a>>
+    pub fn by(prefix: Prefix<'a>, suffix: &'a Suffix<Tree>) -> Option<Call<'a>>
         ensures { option_map spec.seen_call result ≡ spec.call_by (seen_prefix prefix.entry) suffix.now }
     {
         match suffix {
@@ -119,8 +117,8 @@ impl<'a> Call<'a> {
     /// The call that a command is. `None` exactly for `yield` and `super`, and where there is no callee.
     fn command(
         callee: Option<Callee<'a>>,
-        arguments: &'a [Argument<Boxed<Tree>>],
-        block: Option<&'a Block<Boxed<Tree>>>,
+        arguments: &'a [Argument<Tree>],
+        block: Option<&'a Block<Tree>>,
         span: Span,
     ) -> Option<Call<'a>>
         ensures { option_map spec.seen_call result ≡ spec.command (option_map seen_callee callee.entry) arguments.now (option_copied block.entry) span }
@@ -168,8 +166,8 @@ impl<'a> Call<'a> {
     pub fn of(tree: &'a Tree) -> Option<Call<'a>>
         ensures { option_map spec.seen_call result ≡ spec.call_of tree.now }
     {
-        match tree {
-            Tree::Name { name, span } => Some(Call {
+        match tree.get() {
+            Node::Name { name, span } => Some(Call {
                 receiver: None,
                 name: name.as_str(),
                 name_span: *span,
@@ -178,7 +176,7 @@ impl<'a> Call<'a> {
                 span: *span,
                 alone: true,
             }),
-            Tree::Call {
+            Node::Call {
                 name,
                 name_span,
                 arguments,
@@ -193,21 +191,21 @@ impl<'a> Call<'a> {
                 span: *span,
                 alone: false,
             }),
-            Tree::Post {
+            Node::Post {
                 receiver,
                 suffixes,
                 ..
             } => Call::of_row(Prefix {
-                operand: receiver.get(),
+                operand: receiver,
                 suffixes: suffixes.as_slice(),
             }),
-            Tree::Command {
+            Node::Command {
                 callee,
                 arguments,
                 block,
                 span,
             } => Call::command(
-                Callee::of(callee.get()),
+                Callee::of(callee),
                 arguments.as_slice(),
                 block_of(block),
                 *span,

@@ -7,8 +7,8 @@ ghost use Rattle.rb_views.specs.Prefixes.{seen_prefix};
 
 use crate::place::names_span;
 use crate::prefix::Prefix;
-use rb_tree::syntax::{PlacedName, Reference, Suffix, Tree};
-use srb_terms::{Boxed, Name, Span};
+use rb_tree::syntax::{Node, PlacedName, Reference, Suffix, Tree};
+use srb_terms::{Name, Span};
 
 /// The names of a path.
 #[derive(Clone, Copy)]
@@ -17,11 +17,11 @@ pub enum PathNames<'a> {
     Written {
         name: &'a Name,
         span: Span,
-        suffixes: &'a [Suffix<Boxed<Tree>>],
+        suffixes: &'a [Suffix<Tree>],
     },
     /// The constants with which the suffixes begin, perhaps none.
     Following {
-        suffixes: &'a [Suffix<Boxed<Tree>>],
+        suffixes: &'a [Suffix<Tree>],
     },
     /// Names of a declaration.
     Placed {
@@ -39,7 +39,7 @@ pub struct Path<'a> {
     /// From the `::` in front, or the first name, to the end of the last.
     pub span: Span,
     /// The suffixes after the path.
-    pub rest: &'a [Suffix<Boxed<Tree>>],
+    pub rest: &'a [Suffix<Tree>],
 }
 
 impl<'a> PathNames<'a> {
@@ -141,7 +141,7 @@ fn path_from<'a>(
     name: &'a Name,
     name_span: Span,
     span: Span,
-    suffixes: &'a [Suffix<Boxed<Tree>>],
+    suffixes: &'a [Suffix<Tree>],
 ) -> Path<'a>
     ensures { spec.seen_path result ≡ spec.path_from top name.now name_span span suffixes.now }
 {
@@ -163,11 +163,11 @@ impl<'a> Path<'a> {
     pub fn of_prefix(prefix: Prefix<'a>) -> Option<Path<'a>>
         ensures { option_map spec.seen_path result ≡ spec.path_of_prefix (seen_prefix prefix.entry) }
     {
-        match prefix.operand {
-            Tree::Constant { name, span } => {
+        match prefix.operand.get() {
+            Node::Constant { name, span } => {
                 Some(path_from(false, name, *span, *span, prefix.suffixes))
             }
-            Tree::TopConstant {
+            Node::TopConstant {
                 name,
                 name_span,
                 span,

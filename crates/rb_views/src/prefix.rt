@@ -4,14 +4,14 @@ ghost use Rattle.std.specs.Prelude.{◌≡◌, ◌-◌, length, slice_get};
 ghost use Rattle.std.specs.Option.{option_copied};
 ghost use Rattle.rb_views.specs.Prefixes as spec;
 
-use rb_tree::syntax::{Suffix, Tree};
-use srb_terms::{Boxed, Span};
+use rb_tree::syntax::{Node, Suffix, Tree};
+use srb_terms::Span;
 
 /// An operand and a row of suffixes after it, perhaps none.
 #[derive(Clone, Copy)]
 pub struct Prefix<'a> {
     pub operand: &'a Tree,
-    pub suffixes: &'a [Suffix<Boxed<Tree>>],
+    pub suffixes: &'a [Suffix<Tree>],
 }
 
 /// The place of a suffix.
@@ -43,13 +43,13 @@ impl<'a> Prefix<'a> {
     pub fn of(tree: &'a Tree) -> Prefix<'a>
         ensures { spec.seen_prefix result ≡ spec.prefix_of tree.now }
     {
-        match tree {
-            Tree::Post {
+        match tree.get() {
+            Node::Post {
                 receiver,
                 suffixes,
                 ..
             } => Prefix {
-                operand: receiver.get(),
+                operand: receiver,
                 suffixes: suffixes.as_slice(),
             },
             _ => Prefix {
@@ -71,7 +71,7 @@ impl<'a> Prefix<'a> {
     }
 
     /// The last suffix. `None` exactly where there is none.
-    pub fn last(self) -> Option<&'a Suffix<Boxed<Tree>>>
+    pub fn last(self) -> Option<&'a Suffix<Tree>>
         ensures { option_copied result ≡ spec.last_suffix self.entry.suffixes.now }
     {
         let suffixes = self.suffixes;

@@ -7,8 +7,8 @@ ghost use Rattle.rb_views.specs.Targets as spec;
 
 use crate::place::open_bracket;
 use crate::prefix::Prefix;
-use rb_tree::syntax::{Argument, Dot, Suffix, Tree};
-use srb_terms::{Boxed, Name, Span};
+use rb_tree::syntax::{Argument, Dot, Node, Suffix, Tree};
+use srb_terms::{Name, Span};
 
 /// What an assignment assigns to.
 #[derive(Clone, Copy)]
@@ -38,7 +38,7 @@ pub enum Target<'a> {
     /// An element of a prefix.
     Element {
         receiver: Prefix<'a>,
-        arguments: &'a [Argument<Boxed<Tree>>],
+        arguments: &'a [Argument<Tree>],
         /// The place of the `[`.
         bracket: Span,
     },
@@ -68,7 +68,7 @@ pub enum Callee<'a> {
 
 impl<'a> Target<'a> {
     /// The target that a prefix with one more suffix is.
-    fn by(receiver: Prefix<'a>, last: Option<&'a Suffix<Boxed<Tree>>>) -> Option<Target<'a>>
+    fn by(receiver: Prefix<'a>, last: Option<&'a Suffix<Tree>>) -> Option<Target<'a>>
         ensures { option_map spec.seen_target result ≡ spec.target_by (prefixes.seen_prefix receiver.entry) (option_copied last.entry) }
     {
         match last {
@@ -107,18 +107,18 @@ impl<'a> Target<'a> {
     pub fn of(tree: &'a Tree) -> Option<Target<'a>>
         ensures { option_map spec.seen_target result ≡ spec.target_of tree.now }
     {
-        match tree {
-            Tree::Name { name, span } => Some(Target::Variable { name, span: *span }),
-            Tree::InstanceVariable { name, span } => {
+        match tree.get() {
+            Node::Name { name, span } => Some(Target::Variable { name, span: *span }),
+            Node::InstanceVariable { name, span } => {
                 Some(Target::InstanceVariable { name, span: *span })
             }
-            Tree::Constant { name, span } => Some(Target::Constant { name, span: *span }),
-            Tree::Post {
+            Node::Constant { name, span } => Some(Target::Constant { name, span: *span }),
+            Node::Post {
                 receiver,
                 suffixes,
                 ..
             } => Target::of_row(Prefix {
-                operand: receiver.get(),
+                operand: receiver,
                 suffixes: suffixes.as_slice(),
             }),
             _ => None,
@@ -128,7 +128,7 @@ impl<'a> Target<'a> {
 
 impl<'a> Callee<'a> {
     /// The callee that a prefix with one more suffix is.
-    fn by(receiver: Prefix<'a>, last: Option<&'a Suffix<Boxed<Tree>>>) -> Option<Callee<'a>>
+    fn by(receiver: Prefix<'a>, last: Option<&'a Suffix<Tree>>) -> Option<Callee<'a>>
         ensures { option_map spec.seen_callee result ≡ spec.callee_by (prefixes.seen_prefix receiver.entry) (option_copied last.entry) }
     {
         match last {
@@ -163,22 +163,22 @@ impl<'a> Callee<'a> {
     pub fn of(tree: &'a Tree) -> Option<Callee<'a>>
         ensures { option_map spec.seen_callee result ≡ spec.callee_of tree.now }
     {
-        match tree {
-            Tree::Name { name, span } => Some(Callee::Name { name, span: *span }),
-            Tree::Yield {
+        match tree.get() {
+            Node::Name { name, span } => Some(Callee::Name { name, span: *span }),
+            Node::Yield {
                 arguments: None,
                 ..
             } => Some(Callee::Yield),
-            Tree::Super {
+            Node::Super {
                 arguments: None,
                 ..
             } => Some(Callee::Super),
-            Tree::Post {
+            Node::Post {
                 receiver,
                 suffixes,
                 ..
             } => Callee::of_row(Prefix {
-                operand: receiver.get(),
+                operand: receiver,
                 suffixes: suffixes.as_slice(),
             }),
             _ => None,

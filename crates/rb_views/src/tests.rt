@@ -4,7 +4,7 @@ use crate::call::Call;
 use crate::path::Path;
 use crate::prefix::Prefix;
 use crate::target::Target;
-use rb_tree::syntax::{Argument, Block, Dot, Suffix, Tree};
+use rb_tree::syntax::{Argument, Block, Dot, Node, Suffix, Tree};
 use srb_terms::{Boxed, Items, Name, NoMemory, Span};
 use std::alloc::Global;
 
@@ -18,13 +18,13 @@ fn one<T: Drop>(alloc: Global, first: T) -> Result<Items<T>, NoMemory> {
     Ok(items)
 }
 
-fn name(alloc: Global, text: &str, span: Span) -> Result<Boxed<Tree>, NoMemory> {
+fn name(alloc: Global, text: &str, span: Span) -> Result<Tree, NoMemory> {
     let name = Name::from_str(alloc, text)?;
-    Boxed::new(alloc, Tree::Name { name, span })
+    Tree::new(alloc, Node::Name { name, span })
 }
 
 // A call of a name of one byte after a dot.
-fn plain_call(alloc: Global, text: &str, start: u32) -> Result<Suffix<Boxed<Tree>>, NoMemory>
+fn plain_call(alloc: Global, text: &str, start: u32) -> Result<Suffix<Tree>, NoMemory>
     requires { start < 1000 }
 {
     Ok(Suffix::Call {
@@ -38,7 +38,7 @@ fn plain_call(alloc: Global, text: &str, start: u32) -> Result<Suffix<Boxed<Tree
 }
 
 // `::B` at the place 3.
-fn constant(alloc: Global) -> Result<Suffix<Boxed<Tree>>, NoMemory> {
+fn constant(alloc: Global) -> Result<Suffix<Tree>, NoMemory> {
     Ok(Suffix::Constant {
         name: Name::from_str(alloc, "B")?,
         name_span: place(5, 6),
@@ -47,11 +47,11 @@ fn constant(alloc: Global) -> Result<Suffix<Boxed<Tree>>, NoMemory> {
 }
 
 // `::A`
-fn top_constant(alloc: Global) -> Result<Boxed<Tree>, NoMemory> {
+fn top_constant(alloc: Global) -> Result<Tree, NoMemory> {
     let name = Name::from_str(alloc, "A")?;
-    Boxed::new(
+    Tree::new(
         alloc,
-        Tree::TopConstant {
+        Node::TopConstant {
             name,
             name_span: place(2, 3),
             span: place(0, 3),
@@ -60,7 +60,7 @@ fn top_constant(alloc: Global) -> Result<Boxed<Tree>, NoMemory> {
 }
 
 // `::B.c` at the place 3.
-fn row(alloc: Global) -> Result<Items<Suffix<Boxed<Tree>>>, NoMemory> {
+fn row(alloc: Global) -> Result<Items<Suffix<Tree>>, NoMemory> {
     let mut suffixes = one(alloc, constant(alloc)?)?;
     suffixes.push(plain_call(alloc, "c", 6)?)?;
     Ok(suffixes)
@@ -69,11 +69,15 @@ fn row(alloc: Global) -> Result<Items<Suffix<Boxed<Tree>>>, NoMemory> {
 // `::A::B.c`
 fn called_path(alloc: Global) -> Result<Tree, NoMemory> {
     let receiver = top_constant(alloc)?;
-    Ok(Tree::Post {
-        receiver,
-        suffixes: row(alloc)?,
-        span: place(0, 8),
-    })
+    let suffixes = row(alloc)?;
+    Tree::new(
+        alloc,
+        Node::Post {
+            receiver,
+            suffixes,
+            span: place(0, 8),
+        },
+    )
 }
 
 fn is_the_path(tree: &Tree) -> bool {
@@ -97,7 +101,7 @@ fn a_path_ends_before_a_call(rt: HostRuntime) -> Result<(), NoMemory> {
 }
 
 // `.f[b]` at the place 1.
-fn indexed(alloc: Global) -> Result<Items<Suffix<Boxed<Tree>>>, NoMemory> {
+fn indexed(alloc: Global) -> Result<Items<Suffix<Tree>>, NoMemory> {
     let value = name(alloc, "b", place(4, 5))?;
     let arguments = one(alloc, Argument::Positional { value })?;
     let mut suffixes = one(alloc, plain_call(alloc, "f", 1)?)?;
@@ -111,11 +115,15 @@ fn indexed(alloc: Global) -> Result<Items<Suffix<Boxed<Tree>>>, NoMemory> {
 // `a.f[b]`
 fn index(alloc: Global) -> Result<Tree, NoMemory> {
     let receiver = name(alloc, "a", place(0, 1))?;
-    Ok(Tree::Post {
-        receiver,
-        suffixes: indexed(alloc)?,
-        span: place(0, 6),
-    })
+    let suffixes = indexed(alloc)?;
+    Tree::new(
+        alloc,
+        Node::Post {
+            receiver,
+            suffixes,
+            span: place(0, 6),
+        },
+    )
 }
 
 fn is_the_index(tree: &Tree) -> bool {
@@ -140,8 +148,8 @@ fn an_index_is_called_by_its_brackets(rt: HostRuntime) -> Result<(), NoMemory> {
 }
 
 // `do end` at the place 4.
-fn block(alloc: Global) -> Result<Boxed<Block<Boxed<Tree>>>, NoMemory> {
-    let body = Boxed::new(alloc, Tree::Nil { span: place(0, 0) })?;
+fn block(alloc: Global) -> Result<Boxed<Block<Tree>>, NoMemory> {
+    let body = Tree::new(alloc, Node::Nil { span: place(0, 0) })?;
     Boxed::new(
         alloc,
         Block {
@@ -157,12 +165,16 @@ fn command(alloc: Global) -> Result<Tree, NoMemory> {
     let value = name(alloc, "a", place(2, 3))?;
     let arguments = one(alloc, Argument::Positional { value })?;
     let callee = name(alloc, "f", place(0, 1))?;
-    Ok(Tree::Command {
-        callee,
-        arguments,
-        block: Some(block(alloc)?),
-        span: place(0, 10),
-    })
+    let block = Some(block(alloc)?);
+    Tree::new(
+        alloc,
+        Node::Command {
+            callee,
+            arguments,
+            block,
+            span: place(0, 10),
+        },
+    )
 }
 
 fn is_the_command(tree: &Tree) -> bool {

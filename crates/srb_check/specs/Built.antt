@@ -13,8 +13,9 @@ use Rattle.rb_tree.specs.declared.syntax.Piece.{Piece}
 use Rattle.rb_tree.specs.declared.syntax.Piece.TheVariants as piece
 use Rattle.rb_tree.specs.declared.syntax.Suffix.{Suffix}
 use Rattle.rb_tree.specs.declared.syntax.Suffix.TheVariants as suffix
-use Rattle.rb_tree.specs.declared.syntax.Tree.{Tree, out-Tree}
-use Rattle.rb_tree.specs.declared.syntax.Tree.TheOpen.{Tree-F}
+use Rattle.rb_tree.specs.declared.syntax.Tree.{Tree}
+use Rattle.rb_tree.specs.declared.syntax.Node.{Node, out-Node}
+use Rattle.rb_tree.specs.declared.syntax.Node.TheOpen.{Node-F}
 use Rattle.srb_check.specs.declared.built.Class.{Class}
 use Rattle.srb_check.specs.declared.built.Class.TheVariants as class
 use Rattle.srb_check.specs.declared.built.Expression.{Expression}
@@ -44,16 +45,16 @@ abbrev pub number_class : List ℕ → Option Class
 number_class words = if is_number words then Some class.Integer else None
 
 -- the class of the literal that a node is
-abbrev pub literal_class : {X : Type 0} → Tree-F X → Option Class
-literal_class (Tree-F.Nil span) = Some class.Nil
-literal_class (Tree-F.True span) = Some class.True
-literal_class (Tree-F.False span) = Some class.False
-literal_class (Tree-F.Whole None words span) = number_class words
-literal_class (Tree-F.Text pieces span) = string_class pieces
+abbrev pub literal_class : {X Y : Type 0} → Node-F X Y → Option Class
+literal_class (Node-F.Nil span) = Some class.Nil
+literal_class (Node-F.True span) = Some class.True
+literal_class (Node-F.False span) = Some class.False
+literal_class (Node-F.Whole None words span) = number_class words
+literal_class (Node-F.Text pieces span) = string_class pieces
 literal_class _ = None
 
 unfoldable pub class_of_literal : Tree → Option Class
-class_of_literal t = literal_class (out-Tree t)
+class_of_literal t = literal_class (out-Node t.node)
 
 -- the literal that a tree is, with its place
 unfoldable pub literal_of : Tree → Option Literal
@@ -68,33 +69,33 @@ class_named name =
     else (if bytes_eq name (codes "String") then Some class.Text
     else (if bytes_eq name (codes "NilClass") then Some class.Nil else None))
 
-abbrev pub class_at : {X : Type 0} → Tree-F X → Option Class
-class_at (Tree-F.Constant name span) = class_named name
+abbrev pub class_at : {X Y : Type 0} → Node-F X Y → Option Class
+class_at (Node-F.Constant name span) = class_named name
 class_at _ = None
 
 -- the class that a tree is
 unfoldable pub class_of : Tree → Option Class
-class_of t = class_at (out-Tree t)
+class_of t = class_at (out-Node t.node)
 
 -- whether a node is the constant `T`
-abbrev pub is_t_at : {X : Type 0} → Tree-F X → Bool
-is_t_at (Tree-F.Constant name span) = bytes_eq name (codes "T")
+abbrev pub is_t_at : {X Y : Type 0} → Node-F X Y → Bool
+is_t_at (Node-F.Constant name span) = bytes_eq name (codes "T")
 is_t_at _ = false
 
 unfoldable pub is_t : Tree → Bool
-is_t t = is_t_at (out-Tree t)
+is_t t = is_t_at (out-Node t.node)
 
 -- what the name of a variable may hold: small letters, digits and `_`
 abbrev pub is_variable_byte : ℕ → Bool
 is_variable_byte byte = is_ascii_lowercase byte || is_ascii_digit byte || byte == 95
 
-abbrev pub is_variable_at : {X : Type 0} → Tree-F X → Bool
-is_variable_at (Tree-F.Name name span) = list_all is_variable_byte name
+abbrev pub is_variable_at : {X Y : Type 0} → Node-F X Y → Bool
+is_variable_at (Node-F.Name name span) = list_all is_variable_byte name
 is_variable_at _ = false
 
 -- whether a tree is such a variable
 unfoldable pub is_variable : Tree → Bool
-is_variable t = is_variable_at (out-Tree t)
+is_variable t = is_variable_at (out-Node t.node)
 
 -- ---- assertions and questions
 
@@ -140,37 +141,37 @@ abbrev pub bare_form : {X : Type 0} → List (Suffix X) → Option Form
 bare_form (suffix.Call how name name_span None None call_span ∷ []) = form_named how name
 bare_form _ = None
 
-abbrev pub callee_form_at : Tree-F Tree → Option Form
-callee_form_at (Tree-F.Post receiver suffixes span) = if is_t receiver then bare_form suffixes else None
+abbrev pub callee_form_at : Node-F Node Tree → Option Form
+callee_form_at (Node-F.Post receiver suffixes span) = if is_t receiver then bare_form suffixes else None
 callee_form_at _ = None
 
 -- the form of a call without brackets, by what is called
 unfoldable pub callee_form : Tree → Option Form
-callee_form callee = callee_form_at (out-Tree callee)
+callee_form callee = callee_form_at (out-Node callee.node)
 
 -- a literal by itself
 abbrev pub plain_of : Option Literal → Option Expression
 plain_of None = None
 plain_of (Some literal) = Some Plain
 
-abbrev pub expression_at : Tree → Tree-F Tree → Option Expression
-expression_at t (Tree-F.Post receiver suffixes span) = if is_t receiver then suffixed suffixes span else None
-expression_at t (Tree-F.Command callee arguments None span) = called (callee_form callee) arguments span
+abbrev pub expression_at : Tree → Node-F Node Tree → Option Expression
+expression_at t (Node-F.Post receiver suffixes span) = if is_t receiver then suffixed suffixes span else None
+expression_at t (Node-F.Command callee arguments None span) = called (callee_form callee) arguments span
 expression_at t _ = plain_of (literal_of t)
 
 -- the literal, assertion or question that a tree is
 unfoldable pub expression_of : Tree → Option Expression
-expression_of t = expression_at t (out-Tree t)
+expression_of t = expression_at t (out-Node t.node)
 
 -- ---- programs
 
-abbrev pub statement_at : Tree → Tree-F Tree → Option Expression
-statement_at t (Tree-F.Assign target value span) = if is_variable target then expression_of value else None
+abbrev pub statement_at : Tree → Node-F Node Tree → Option Expression
+statement_at t (Node-F.Assign target value span) = if is_variable target then expression_of value else None
 statement_at t _ = expression_of t
 
 -- what a statement judges: itself, or what it assigns to a variable
 unfoldable pub statement_of : Tree → Option Expression
-statement_of t = statement_at t (out-Tree t)
+statement_of t = statement_at t (out-Node t.node)
 
 abbrev pub with_first : Option Expression → Option (List Expression) → Option (List Expression)
 with_first (Some first) (Some rest) = Some (first ∷ rest)
@@ -180,10 +181,10 @@ abbrev pub built_statements : List Tree → Option (List Expression)
 built_statements [] = Some []
 built_statements (statement ∷ statements) = with_first (statement_of statement) (built_statements statements)
 
-abbrev pub built_at : Tree-F Tree → Option (List Expression)
-built_at (Tree-F.Body statements span) = built_statements statements
+abbrev pub built_at : Node-F Node Tree → Option (List Expression)
+built_at (Node-F.Body statements span) = built_statements statements
 built_at _ = None
 
 -- what the statements of a program judge, in order; None where its tree isn't built
 unfoldable pub built : Tree → Option (List Expression)
-built t = built_at (out-Tree t)
+built t = built_at (out-Node t.node)

@@ -5,8 +5,8 @@ ghost use Rattle.std.specs.List.{list_all};
 ghost use Rattle.std.specs.Char.{is_ascii_digit};
 ghost use Rattle.srb_check.specs.Built as spec;
 
-use rb_tree::syntax::{Argument, Dot, Piece, Suffix, Tree};
-use srb_terms::{Boxed, Span};
+use rb_tree::syntax::{Argument, Dot, Node, Piece, Suffix, Tree};
+use srb_terms::Span;
 
 /// The class of a literal, or one that is asserted of it.
 #[derive(Clone, Copy, Debug, PartialEq, Eq)]
@@ -87,7 +87,7 @@ fn all_string_bytes(words: &[u8]) -> bool
 }
 
 /// The class of a string of these pieces.
-fn string_class(pieces: &[Piece<Boxed<Tree>>]) -> Option<Class>
+fn string_class(pieces: &[Piece<Tree>]) -> Option<Class>
     ensures { result ≡ spec.string_class pieces.now }
 {
     match pieces {
@@ -118,16 +118,16 @@ fn number_class(words: &[u8]) -> Option<Class>
 fn literal_class(tree: &Tree) -> Option<Class>
     ensures { result ≡ spec.class_of_literal tree.now }
 {
-    match tree {
-        Tree::Nil { .. } => Some(Class::Nil),
-        Tree::True { .. } => Some(Class::True),
-        Tree::False { .. } => Some(Class::False),
-        Tree::Whole {
+    match tree.get() {
+        Node::Nil { .. } => Some(Class::Nil),
+        Node::True { .. } => Some(Class::True),
+        Node::False { .. } => Some(Class::False),
+        Node::Whole {
             sign: None,
             words,
             ..
         } => number_class(words.as_bytes()),
-        Tree::Text { pieces, .. } => string_class(pieces.as_slice()),
+        Node::Text { pieces, .. } => string_class(pieces.as_slice()),
         _ => None,
     }
 }
@@ -166,8 +166,8 @@ fn class_named(name: &str) -> Option<Class>
 fn class_of(tree: &Tree) -> Option<Class>
     ensures { result ≡ spec.class_of tree.now }
 {
-    match tree {
-        Tree::Constant { name, .. } => class_named(name.as_str()),
+    match tree.get() {
+        Node::Constant { name, .. } => class_named(name.as_str()),
         _ => None,
     }
 }
@@ -177,8 +177,8 @@ fn class_of(tree: &Tree) -> Option<Class>
 fn is_t(tree: &Tree) -> bool
     ensures { result ≡ spec.is_t tree.now }
 {
-    match tree {
-        Tree::Constant { name, .. } => name.as_str() == "T",
+    match tree.get() {
+        Node::Constant { name, .. } => name.as_str() == "T",
         _ => false,
     }
 }
@@ -200,8 +200,8 @@ fn all_variable_bytes(name: &[u8]) -> bool
 fn is_variable(tree: &Tree) -> bool
     ensures { result ≡ spec.is_variable tree.now }
 {
-    match tree {
-        Tree::Name { name, .. } => all_variable_bytes(name.as_bytes()),
+    match tree.get() {
+        Node::Name { name, .. } => all_variable_bytes(name.as_bytes()),
         _ => false,
     }
 }
@@ -225,21 +225,21 @@ fn form_named(dot: Dot, name: &str) -> Option<Form>
 }
 
 /// The literal that an argument gives by its place.
-fn literal_argument(argument: &Argument<Boxed<Tree>>) -> Option<Literal>
+fn literal_argument(argument: &Argument<Tree>) -> Option<Literal>
     ensures { result ≡ spec.literal_argument argument.now }
 {
     match argument {
-        Argument::Positional { value } => literal_of(value.get()),
+        Argument::Positional { value } => literal_of(value),
         _ => None,
     }
 }
 
 /// The class that an argument gives by its place.
-fn class_argument(argument: &Argument<Boxed<Tree>>) -> Option<Class>
+fn class_argument(argument: &Argument<Tree>) -> Option<Class>
     ensures { result ≡ spec.class_argument argument.now }
 {
     match argument {
-        Argument::Positional { value } => class_of(value.get()),
+        Argument::Positional { value } => class_of(value),
         _ => None,
     }
 }
@@ -265,7 +265,7 @@ fn reveal_of(literal: Option<Literal>, span: Span) -> Option<Expression>
 }
 
 /// What a call of this form at this place is.
-fn called(form: Option<Form>, arguments: &[Argument<Boxed<Tree>>], span: Span) -> Option<Expression>
+fn called(form: Option<Form>, arguments: &[Argument<Tree>], span: Span) -> Option<Expression>
     ensures { result ≡ spec.called form arguments.now span }
 {
     match (form, arguments) {
@@ -278,7 +278,7 @@ fn called(form: Option<Form>, arguments: &[Argument<Boxed<Tree>>], span: Span) -
 }
 
 /// What `T` with these suffixes at this place is.
-fn suffixed(suffixes: &[Suffix<Boxed<Tree>>], span: Span) -> Option<Expression>
+fn suffixed(suffixes: &[Suffix<Tree>], span: Span) -> Option<Expression>
     ensures { result ≡ spec.suffixed suffixes.now span }
 {
     match suffixes {
@@ -296,7 +296,7 @@ fn suffixed(suffixes: &[Suffix<Boxed<Tree>>], span: Span) -> Option<Expression>
 }
 
 /// The form of a call of `T` with these suffixes that has no brackets.
-fn bare_form(suffixes: &[Suffix<Boxed<Tree>>]) -> Option<Form>
+fn bare_form(suffixes: &[Suffix<Tree>]) -> Option<Form>
     ensures { result ≡ spec.bare_form suffixes.now }
 {
     match suffixes {
@@ -318,13 +318,13 @@ fn bare_form(suffixes: &[Suffix<Boxed<Tree>>]) -> Option<Form>
 fn callee_form(callee: &Tree) -> Option<Form>
     ensures { result ≡ spec.callee_form callee.now }
 {
-    match callee {
-        Tree::Post {
+    match callee.get() {
+        Node::Post {
             receiver,
             suffixes,
             ..
         } => {
-            if is_t(receiver.get()) {
+            if is_t(receiver) {
                 bare_form(suffixes.as_slice())
             } else {
                 None
@@ -349,24 +349,24 @@ fn plain_of(literal: Option<Literal>) -> Option<Expression>
 fn expression_of(tree: &Tree) -> Option<Expression>
     ensures { result ≡ spec.expression_of tree.now }
 {
-    match tree {
-        Tree::Post {
+    match tree.get() {
+        Node::Post {
             receiver,
             suffixes,
             span,
         } => {
-            if is_t(receiver.get()) {
+            if is_t(receiver) {
                 suffixed(suffixes.as_slice(), *span)
             } else {
                 None
             }
         }
-        Tree::Command {
+        Node::Command {
             callee,
             arguments,
             block: None,
             span,
-        } => called(callee_form(callee.get()), arguments.as_slice(), *span),
+        } => called(callee_form(callee), arguments.as_slice(), *span),
         _ => plain_of(literal_of(tree)),
     }
 }
@@ -376,10 +376,10 @@ fn expression_of(tree: &Tree) -> Option<Expression>
 pub fn statement_of(tree: &Tree) -> Option<Expression>
     ensures { result ≡ spec.statement_of tree.now }
 {
-    match tree {
-        Tree::Assign { target, value, .. } => {
-            if is_variable(target.get()) {
-                expression_of(value.get())
+    match tree.get() {
+        Node::Assign { target, value, .. } => {
+            if is_variable(target) {
+                expression_of(value)
             } else {
                 None
             }

@@ -2,6 +2,7 @@
 
 ghost use Rattle.std.specs.Prelude.{◌≡◌, ◌≤◌, ◌<◌, ◌+◌, ◌^◌, length, drop};
 ghost use Rattle.srb_check.specs.Characters as spec;
+ghost use Rattle.srb_text.specs.Limits.{MOST_BYTES};
 
 use srb_terms::Span;
 
@@ -45,7 +46,7 @@ fn from(bytes: &[u8], at: usize) -> &[u8]
 
 /// The place of the character that begins at an offset, which is empty at the text's end.
 pub fn character_at(bytes: &[u8], at: u32) -> Span
-    requires { length bytes.now ≤ 16777216 }
+    requires { length bytes.now ≤ MOST_BYTES }
     ensures { result ≡ spec.character_at bytes.now at }
 {
     Span {

@@ -7,8 +7,8 @@ ghost use Rattle.srb_check.specs.Records.{loaded, tree_errors, record_errors};
 use crate::built::statement_of;
 use crate::errors::{not_built, push_error};
 use crate::file::FileRec;
-use rb_tree::syntax::Tree;
-use srb_terms::{Boxed, Diag, Level, Steps, World};
+use rb_tree::syntax::{Node, Tree};
+use srb_terms::{Diag, Level, Steps, World};
 use std::alloc::{AllocError, Global};
 use std::sync::ledger::Ledger;
 
@@ -32,12 +32,12 @@ fn one_error(alloc: Global, error: Diag) -> Result<Vec<Diag>, AllocError>
 }
 
 /// The errors of statements, in order, or the one error of statements that aren't built.
-fn statements_errors(alloc: Global, statements: &[Boxed<Tree>]) -> Result<Vec<Diag>, AllocError>
+fn statements_errors(alloc: Global, statements: &[Tree]) -> Result<Vec<Diag>, AllocError>
     ensures { IfOk result (λ ds. ds.items ≡ judged (built_statements statements.now)) }
 {
     let mut errors = Vec::new(alloc);
     for statement in statements {
-        match statement_of(statement.get()) {
+        match statement_of(statement) {
             Some(expression) => push_error(alloc, &mut errors, expression)?,
             None => return one_error(alloc, not_built(alloc)?),
         }
@@ -50,8 +50,8 @@ fn statements_errors(alloc: Global, statements: &[Boxed<Tree>]) -> Result<Vec<Di
 fn program_errors(alloc: Global, tree: &Tree) -> Result<Vec<Diag>, AllocError>
     ensures { IfOk result (λ ds. ds.items ≡ judged (built tree.now)) }
 {
-    match tree {
-        Tree::Body { statements, .. } => statements_errors(alloc, statements.as_slice()),
+    match tree.get() {
+        Node::Body { statements, .. } => statements_errors(alloc, statements.as_slice()),
         _ => one_error(alloc, not_built(alloc)?),
     }
 }

@@ -21,7 +21,7 @@ fn check_bytes<L: Ledger>(
 {
     let mut steps: Steps<L> = Steps::new(blank);
     let file = load(alloc, bytes)?;
-    check_file(alloc, &World {}, &file, &mut steps)
+    check_file(alloc, &World::new(alloc), &file, &mut steps)
 }
 
 /// The errors of the file at `path` as a check finds them that begins with the project's bytes alone. A path that the

@@ -1,4 +1,4 @@
-use Rattle.std.proofs.Common.{◌≡◌, ℕ, length}
+use Rattle.std.proofs.Common.{◌≡◌, length}
 use Rattle.rb_expr.specs.Reading.{skip_separators}
 use Rattle.rb_expr.proofs.reading.skip_separators.Given as goal
 
