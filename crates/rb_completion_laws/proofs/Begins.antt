@@ -2,10 +2,11 @@
 use Rattle.std.proofs.Common.{◌≡◌, ℕ, Bool, false, List, [], ◌∷◌, ◌++◌, Some, None, sym, ap, ◌∙◌}
 use Rattle.rb_tree.specs.Tokens.{shape_of}
 use Rattle.rb_tree.specs.declared.syntax.Suffix.{Suffix}
-use Rattle.rb_tree.specs.declared.syntax.Tree.{Tree, out-Tree}
-use Rattle.rb_tree.specs.declared.syntax.Tree.TheOpen.{Tree-F}
-use Rattle.rb_tree.specs.declared.syntax.Tree.TheViews.{roll-Tree, out-roll-Tree}
-use Rattle.rb_tree.specs.declared.syntax.Tree.TheVariants.{rolls-Whole, rolls-Float, rolls-Text, rolls-Symbol, rolls-InstanceVariable, rolls-Constant, rolls-TopConstant, rolls-SelfWord, rolls-Nil, rolls-True, rolls-False, rolls-Name, rolls-Call, rolls-Yield, rolls-Super, rolls-Array, rolls-Hash, rolls-Parens, rolls-If, rolls-While, rolls-Case, rolls-Post, rolls-Unary, rolls-Binary}
+use Rattle.rb_tree.specs.declared.syntax.Tree.{Tree}
+use Rattle.rb_tree.specs.declared.syntax.Node.{Node, out-Node}
+use Rattle.rb_tree.specs.declared.syntax.Node.TheOpen.{Node-F}
+use Rattle.rb_tree.specs.declared.syntax.Node.TheViews.{roll-Node, out-roll-Node}
+use Rattle.rb_tree.specs.declared.syntax.Node.TheVariants.{rolls-Whole, rolls-Float, rolls-Text, rolls-Symbol, rolls-InstanceVariable, rolls-Constant, rolls-TopConstant, rolls-SelfWord, rolls-Nil, rolls-True, rolls-False, rolls-Name, rolls-Call, rolls-Yield, rolls-Super, rolls-Array, rolls-Hash, rolls-Parens, rolls-If, rolls-While, rolls-Case, rolls-Post, rolls-Unary, rolls-Binary}
 use Rattle.rb_tree.specs.declared.token.Token.{Token}
 use Rattle.rb_tree.specs.declared.token.Shape.TheVariants as shape
 use Rattle.rb_rules.specs.Tokens.{Is}
@@ -18,9 +19,9 @@ use Rattle.rb_rules.specs.Grammar.DerivesOperand.{Bare, Suffixed}
 use Rattle.rb_rules.specs.Grammar.DerivesPrimary.{WholeNumber, FloatNumber, SignedWhole, SignedFloat, String, SymbolName, InstanceName, ConstantName, FromTop, SelfPlace, NilPlace, TruePlace, FalsePlace, NameAlone, CallWithBrackets, CallWithBlock, Yields, Supers, EmptyArray, SomeArray, EmptyHash, SomeHash, InParens, Branches, Loops, Guards, Cases}
 
 -- a tree with this node
-pub noded : (t : Tree) (r : Tree-F Tree) → roll-Tree r ≡ t → is_begin t ≡ is_begin_at r
+pub noded : (t : Tree) (r : Node-F Node Tree) → roll-Node r ≡ t.node → is_begin t ≡ is_begin_at r
 unfolding is_begin
-noded t r e = ap (λ u. is_begin_at (out-Tree u)) (sym e) ∙ ap (λ q. is_begin_at q) (out-roll-Tree r)
+noded t r e = ap (λ u. is_begin_at (out-Node u)) (sym e) ∙ ap (λ q. is_begin_at q) (out-roll-Node r)
 
 -- an operand with a suffix
 pub posted-more : (p : Tree) (ss : List (Suffix Tree)) (s : Suffix Tree) → is_begin (posted p (ss ++ s ∷ [])) ≡ false

@@ -12,10 +12,11 @@ use Rattle.rb_tree.specs.declared.syntax.Sign.{Sign}
 use Rattle.rb_tree.specs.declared.syntax.Sign.TheVariants as sign
 use Rattle.rb_tree.specs.declared.syntax.Test.TheVariants as test
 use Rattle.rb_tree.specs.declared.syntax.Tree.{Tree}
-use Rattle.rb_tree.specs.declared.syntax.Tree.TheOpen.{Tree-F}
-use Rattle.rb_tree.specs.declared.syntax.Tree.TheViews.{roll-Tree}
-use Rattle.rb_tree.specs.declared.syntax.Tree.TheVariants as tree
-use Rattle.rb_tree.specs.declared.syntax.Tree.TheVariants.{rolls-Whole, rolls-Float, rolls-Text, rolls-Symbol, rolls-InstanceVariable, rolls-Constant, rolls-TopConstant, rolls-SelfWord, rolls-Nil, rolls-True, rolls-False, rolls-Name, rolls-Call, rolls-Yield, rolls-Super, rolls-Array, rolls-Hash, rolls-Parens}
+use Rattle.rb_tree.specs.declared.syntax.Node.{Node}
+use Rattle.rb_tree.specs.declared.syntax.Node.TheOpen.{Node-F}
+use Rattle.rb_tree.specs.declared.syntax.Node.TheViews.{roll-Node}
+use Rattle.rb_tree.specs.Nodes as tree
+use Rattle.rb_tree.specs.declared.syntax.Node.TheVariants.{rolls-Whole, rolls-Float, rolls-Text, rolls-Symbol, rolls-InstanceVariable, rolls-Constant, rolls-TopConstant, rolls-SelfWord, rolls-Nil, rolls-True, rolls-False, rolls-Name, rolls-Call, rolls-Yield, rolls-Super, rolls-Array, rolls-Hash, rolls-Parens}
 use Rattle.rb_tree.specs.declared.token.Token.{Token}
 use Rattle.rb_tree.specs.declared.token.TokenKind.TheVariants as kind
 use Rattle.rb_tree.specs.declared.token.Shape.{Shape}
@@ -110,7 +111,7 @@ single free s e t ts is v d u = record {
   );
 }
 
-used : (free : Bool) (t : Tree) (r : Tree-F Tree) (us zs : List Token) → roll-Tree r ≡ t → Uses (ending_at r) free us zs → Uses (ending_of t) free us zs
+used : (free : Bool) (t : Tree) (r : Node-F Node Tree) (us zs : List Token) → roll-Node r ≡ t.node → Uses (ending_at r) free us zs → Uses (ending_of t) free us zs
 used free t r us zs e h = subst (λ x. Uses x free us zs) (sym (ends-so t r e)) h
 
 -- ---- numbers

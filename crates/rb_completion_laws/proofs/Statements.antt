@@ -7,9 +7,10 @@ use Rattle.rb_tree.specs.declared.syntax.Binary.{Binary}
 use Rattle.rb_tree.specs.declared.syntax.Jump.{Jump}
 use Rattle.rb_tree.specs.declared.syntax.Modifier.{Modifier}
 use Rattle.rb_tree.specs.declared.syntax.Modifier.TheVariants as modifier
-use Rattle.rb_tree.specs.declared.syntax.Tree.{Tree, out-Tree}
-use Rattle.rb_tree.specs.declared.syntax.Tree.TheOpen.{Tree-F}
-use Rattle.rb_tree.specs.declared.syntax.Tree.TheVariants.{rolls-Assign, rolls-OperatorAssign, rolls-Command, rolls-Jump, rolls-Modified}
+use Rattle.rb_tree.specs.declared.syntax.Tree.{Tree}
+use Rattle.rb_tree.specs.declared.syntax.Node.{out-Node}
+use Rattle.rb_tree.specs.declared.syntax.Node.TheOpen.{Node-F}
+use Rattle.rb_tree.specs.declared.syntax.Node.TheVariants.{rolls-Assign, rolls-OperatorAssign, rolls-Command, rolls-Jump, rolls-Modified}
 use Rattle.rb_tree.specs.declared.token.Token.{Token}
 use Rattle.rb_tree.specs.declared.token.Shape.{Shape}
 use Rattle.rb_tree.specs.declared.token.Shape.TheVariants as shape
@@ -87,13 +88,13 @@ modifying shape.Until = inr (inr (inr (inl (refl, refl))))
 modifying s = tt
 
 -- what the parser allows, the grammar does
-begins-same : {X : Type 0} (r : Tree-F X) → spec.is_begin_at r ≡ is_begin_at r
-begins-same (Tree-F.Begin guarded span) = refl
+begins-same : {X Y : Type 0} (r : Node-F X Y) → spec.is_begin_at r ≡ is_begin_at r
+begins-same (Node-F.Begin guarded span) = refl
 begins-same r = refl
 
 no-begin : (t : Tree) → not (spec.is_begin t) ≡ true → is_begin t ≡ false
 unfolding is_begin spec.is_begin
-no-begin t e = sym (begins-same (out-Tree t)) ∙ negated' (spec.is_begin_at (out-Tree t)) e
+no-begin t e = sym (begins-same (out-Node t.node)) ∙ negated' (spec.is_begin_at (out-Node t.node)) e
   where
     negated' : (b : Bool) → not b ≡ true → b ≡ false
     negated' true e = absurd (cc)

@@ -1,9 +1,10 @@
 -- That whatever is read of a form that nests can be completed.
 use Rattle.std.proofs.Common.{◌≡◌, ℕ, zero, suc, ◌≤◌, ◌<◌, Bool, true, false, List, [], ◌∷◌, ◌⊎◌, inl, inr, refl, sym, ap, subst, ◌∙◌, arith, ⊎_elim}
 use Rattle.rb_tree.specs.Tokens.{shape_of}
-use Rattle.rb_tree.specs.declared.syntax.Tree.{Tree, out-Tree}
-use Rattle.rb_tree.specs.declared.syntax.Tree.TheOpen.{Tree-F}
-use Rattle.rb_tree.specs.declared.syntax.Tree.TheViews.{roll-Tree, out-roll-Tree}
+use Rattle.rb_tree.specs.declared.syntax.Tree.{Tree}
+use Rattle.rb_tree.specs.declared.syntax.Node.{Node, out-Node}
+use Rattle.rb_tree.specs.declared.syntax.Node.TheOpen.{Node-F}
+use Rattle.rb_tree.specs.declared.syntax.Node.TheViews.{roll-Node, out-roll-Node}
 use Rattle.rb_tree.specs.declared.syntax.Suffix.{Suffix}
 use Rattle.rb_tree.specs.declared.token.Token.{Token}
 use Rattle.rb_tree.specs.declared.token.TokenKind.TheVariants as kind
@@ -138,9 +139,9 @@ Uses ending.Callee free us zs = ACallee free us zs
 Uses ending.Constant free us zs = ATarget true free us zs
 Uses ending.Other free us zs = Unit {0}
 
-pub ends-so : (t : Tree) (r : Tree-F Tree) → roll-Tree r ≡ t → ending_of t ≡ ending_at r
+pub ends-so : (t : Tree) (r : Node-F Node Tree) → roll-Node r ≡ t.node → ending_of t ≡ ending_at r
 unfolding ending_of
-ends-so t r e = ap (λ u. ending_at (out-Tree u)) (sym e) ∙ ap (λ q. ending_at q) (out-roll-Tree r)
+ends-so t r e = ap (λ u. ending_at (out-Node u)) (sym e) ∙ ap (λ q. ending_at q) (out-roll-Node r)
 
 -- ---- the simplest of each form
 

@@ -8,8 +8,8 @@ use Rattle.rb_tree.specs.declared.syntax.Rescue.{Rescue}
 use Rattle.rb_tree.specs.declared.syntax.Test.{Test}
 use Rattle.rb_tree.specs.declared.syntax.Test.TheVariants as test
 use Rattle.rb_tree.specs.declared.syntax.Tree.{Tree}
-use Rattle.rb_tree.specs.declared.syntax.Tree.TheVariants as tree
-use Rattle.rb_tree.specs.declared.syntax.Tree.TheVariants.{rolls-If, rolls-While, rolls-Case, rolls-Begin}
+use Rattle.rb_tree.specs.Nodes as tree
+use Rattle.rb_tree.specs.declared.syntax.Node.TheVariants.{rolls-If, rolls-While, rolls-Case, rolls-Begin}
 use Rattle.rb_tree.specs.declared.syntax.When.{When}
 use Rattle.rb_tree.specs.declared.token.Token.{Token}
 use Rattle.rb_tree.specs.declared.token.Shape.TheVariants as shape

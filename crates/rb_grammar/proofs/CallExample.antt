@@ -2,7 +2,7 @@
 use Rattle.std.proofs.Common.{true, List, [], ◌∷◌, codes, Some, None, inl, refl, arith}
 use Rattle.rb_tree.specs.Tokens as tokens
 use Rattle.rb_tree.specs.Trees as trees
-use Rattle.rb_tree.specs.declared.syntax.Tree as syntax
+use Rattle.rb_tree.specs.declared.syntax.Node as syntax
 use Rattle.rb_tree.specs.declared.syntax.Tree.{Tree}
 use Rattle.rb_tree.specs.declared.syntax.Argument.TheVariants as argument
 use Rattle.rb_tree.specs.declared.syntax.Dot.TheVariants as dot
@@ -36,7 +36,7 @@ term t xs ys d = Operated true t xs ys
     (Tighter 5 true t xs ys (omega arith) (Tighter 6 true t xs ys (omega arith) (Tighter 7 true t xs ys (omega arith) (Tighter 8 true t xs ys (omega arith) (Plainly true t xs ys d))))))))))
 
 pub call-derives : CallDerives
-unfolding syntax.out-Tree carrier.out tokens.shape_of trees.span_of
+unfolding syntax.out-Node carrier.out tokens.shape_of trees.span_of trees.span_of_node
 call-derives = Statements Top true _ [] CALL CALL [] [] [] (Closed _)
     (Simply Top true _ _ CALL [] [] (Valued _ true _ CALL [] (Term _ true _ CALL [] (term _ CALL []
     (Posted true _ _ _ CALL [] (Suffixed true _ _ _ [] _ CALL _ []

@@ -2,8 +2,8 @@
 use Rattle.std.proofs.Common.{◌≡◌, ◌≢◌, ◌⊎◌, ℕ, List, [], ◌∷◌, codes, None, inl, inr, ap, ◌∙◌, arith}
 use Rattle.srb_terms.specs.declared.span.Span.{Span}
 use Rattle.rb_tree.specs.declared.token.Token.{Token}
-use Rattle.rb_tree.specs.declared.syntax.Tree.TheVariants as tree
-use Rattle.rb_tree.specs.declared.syntax.Tree.TheVariants.{rolls-Body, rolls-Binary, rolls-Post, rolls-Whole}
+use Rattle.rb_tree.specs.Nodes as tree
+use Rattle.rb_tree.specs.declared.syntax.Node.TheVariants.{rolls-Body, rolls-Binary, rolls-Post, rolls-Whole}
 use Rattle.rb_rules.specs.Tokens.{IsOneOf}
 use Rattle.rb_grammar.specs.Places.{Each, AreInOrder, IsPlaced, StandsAt}
 use Rattle.rb_grammar.specs.Examples.{from_to, SUM, CALL, call_tree, LateStandsNot, LateArgumentStandsNot, ReversedArgumentStandsNot}

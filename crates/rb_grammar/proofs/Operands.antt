@@ -12,8 +12,8 @@ use Rattle.rb_tree.specs.declared.syntax.Sign.{Sign}
 use Rattle.rb_tree.specs.declared.syntax.Sign.TheVariants as sign
 use Rattle.rb_tree.specs.declared.syntax.Test.TheVariants as test
 use Rattle.rb_tree.specs.declared.syntax.Tree.{Tree}
-use Rattle.rb_tree.specs.declared.syntax.Tree.TheVariants as tree
-use Rattle.rb_tree.specs.declared.syntax.Tree.TheVariants.{rolls-Whole, rolls-Float, rolls-Text, rolls-Symbol, rolls-InstanceVariable, rolls-Constant, rolls-TopConstant, rolls-SelfWord, rolls-Nil, rolls-True, rolls-False, rolls-Name, rolls-Call, rolls-Yield, rolls-Super, rolls-Array, rolls-Hash, rolls-Parens}
+use Rattle.rb_tree.specs.Nodes as tree
+use Rattle.rb_tree.specs.declared.syntax.Node.TheVariants.{rolls-Whole, rolls-Float, rolls-Text, rolls-Symbol, rolls-InstanceVariable, rolls-Constant, rolls-TopConstant, rolls-SelfWord, rolls-Nil, rolls-True, rolls-False, rolls-Name, rolls-Call, rolls-Yield, rolls-Super, rolls-Array, rolls-Hash, rolls-Parens}
 use Rattle.rb_tree.specs.declared.token.Token.{Token}
 use Rattle.rb_tree.specs.declared.token.Shape.{Shape}
 use Rattle.rb_tree.specs.declared.token.Shape.TheVariants as shape

@@ -7,8 +7,8 @@ use Rattle.rb_tree.specs.declared.syntax.Binary.{Binary}
 use Rattle.rb_tree.specs.declared.syntax.Unary.{Unary}
 use Rattle.rb_tree.specs.declared.syntax.Unary.TheVariants as unary
 use Rattle.rb_tree.specs.declared.syntax.Tree.{Tree}
-use Rattle.rb_tree.specs.declared.syntax.Tree.TheVariants as tree
-use Rattle.rb_tree.specs.declared.syntax.Tree.TheVariants.{rolls-Binary, rolls-Unary, rolls-Conditional}
+use Rattle.rb_tree.specs.Nodes as tree
+use Rattle.rb_tree.specs.declared.syntax.Node.TheVariants.{rolls-Binary, rolls-Unary, rolls-Conditional}
 use Rattle.rb_tree.specs.declared.token.Token.{Token}
 use Rattle.rb_tree.specs.declared.token.Shape.{Shape}
 use Rattle.rb_tree.specs.declared.token.Shape.TheVariants as shape

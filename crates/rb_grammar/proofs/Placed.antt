@@ -1,13 +1,14 @@
 -- A node whose parts stand at tokens, and whose place is from one of them to one of them, stands there.
 use Rattle.std.proofs.Common.{◌≡◌, ℕ, Bool, List, [], ◌∷◌, ◌++◌, Option, Some, None, inl, inr, refl, sym, subst}
 use Rattle.srb_terms.specs.declared.span.Span.{Span}
-use Rattle.rb_tree.specs.Trees.{span_of, span_at}
+use Rattle.rb_tree.specs.Trees.{span_of, span_at, span_of_node}
 use Rattle.rb_tree.specs.declared.token.Token.{Token}
-use Rattle.rb_tree.specs.declared.syntax.Tree.{Tree, out-Tree}
-use Rattle.rb_tree.specs.declared.syntax.Tree.TheOpen.{Tree-F}
-use Rattle.rb_tree.specs.declared.syntax.Tree.TheViews.{roll-Tree, out-roll-Tree}
-use Rattle.rb_tree.specs.declared.syntax.Tree.TheVariants as tree
-use Rattle.rb_tree.specs.declared.syntax.Tree.TheVariants.{rolls-Body, rolls-Modified, rolls-Jump, rolls-Assign, rolls-OperatorAssign, rolls-Command, rolls-Conditional, rolls-Binary, rolls-Unary, rolls-Post, rolls-Whole, rolls-Float, rolls-Text, rolls-Symbol, rolls-InstanceVariable, rolls-Constant, rolls-TopConstant, rolls-SelfWord, rolls-Nil, rolls-True, rolls-False, rolls-Name, rolls-Call, rolls-Yield, rolls-Super, rolls-Array, rolls-Hash, rolls-Parens, rolls-If, rolls-While, rolls-Case, rolls-Begin, rolls-Class, rolls-Module, rolls-Def}
+use Rattle.rb_tree.specs.declared.syntax.Tree.{Tree}
+use Rattle.rb_tree.specs.declared.syntax.Node.{Node, out-Node}
+use Rattle.rb_tree.specs.declared.syntax.Node.TheOpen.{Node-F}
+use Rattle.rb_tree.specs.declared.syntax.Node.TheViews.{roll-Node, out-roll-Node}
+use Rattle.rb_tree.specs.Nodes as tree
+use Rattle.rb_tree.specs.declared.syntax.Node.TheVariants.{rolls-Body, rolls-Modified, rolls-Jump, rolls-Assign, rolls-OperatorAssign, rolls-Command, rolls-Conditional, rolls-Binary, rolls-Unary, rolls-Post, rolls-Whole, rolls-Float, rolls-Text, rolls-Symbol, rolls-InstanceVariable, rolls-Constant, rolls-TopConstant, rolls-SelfWord, rolls-Nil, rolls-True, rolls-False, rolls-Name, rolls-Call, rolls-Yield, rolls-Super, rolls-Array, rolls-Hash, rolls-Parens, rolls-If, rolls-While, rolls-Case, rolls-Begin, rolls-Class, rolls-Module, rolls-Def}
 use Rattle.rb_tree.specs.declared.syntax.Modifier.{Modifier}
 use Rattle.rb_tree.specs.declared.syntax.Jump.{Jump}
 use Rattle.rb_tree.specs.declared.syntax.Test.{Test}
@@ -31,7 +32,7 @@ use Rattle.rb_rules.specs.Spans.{across, last_of, suffix_span, argument_span, bl
 use Rattle.rb_rules.specs.Grammar.{posted, body_of, span_of_arguments}
 use Rattle.rb_grammar.specs.Places.{Each, IfThere, AreInOrder, IsPlaced, IsNamePlaced, IsReferencePlaced, DoesArgumentStand, DoesBlockStand, DoesSuffixStand, DoesPieceStand, DoesPairStand, DoesArmStand, DoesWhenStand, DoesParameterStand, DoesGuardedStand, DoesNodeStand, StandsAt}
 use Rattle.rb_grammar.proofs.Steps.{Within, within-self, within-token as push, within-more as go}
-use Rattle.rb_grammar.proofs.Nodes.{stands}
+use Rattle.rb_grammar.proofs.Nodes.{stands-as}
 
 -- ---- lists
 
@@ -173,59 +174,59 @@ module _ (tokens : List Token) where
 
   -- ---- nodes
 
-  made : (t : Tree) (r : Tree-F Tree) → roll-Tree r ≡ t → DoesNodeStand tokens (StandsAt tokens) r → StandsAt tokens t
-  made t r e h = subst (StandsAt tokens) e (stands tokens r h)
+  made : (t : Tree) (r : Node-F Node Tree) → roll-Node r ≡ t.node → DoesNodeStand tokens (StandsAt tokens) r → StandsAt tokens t
+  made t r e h = stands-as tokens t r e h
 
-  begun : (xs : List Token) (t : Tree) (r : Tree-F Tree) → roll-Tree r ≡ t → Begins xs (span_at r) → Begins xs (span_of t)
-  unfolding span_of
-  begun xs t r e h = subst (λ u. Begins xs (span_at (out-Tree u))) e (subst (λ q. Begins xs (span_at q)) (sym (out-roll-Tree r)) h)
+  begun : (xs : List Token) (t : Tree) (r : Node-F Node Tree) → roll-Node r ≡ t.node → Begins xs (span_at r) → Begins xs (span_of t)
+  unfolding span_of span_of_node
+  begun xs t r e h = subst (λ u. Begins xs (span_at (out-Node u))) e (subst (λ q. Begins xs (span_at q)) (sym (out-roll-Node r)) h)
 
   pub no-statement : StandsAt tokens (body_of [])
-  no-statement = made _ (Tree-F.Body [] (record { start = 0; end = 0 })) (rolls-Body _ _) (refl, refl)
+  no-statement = made _ (Node-F.Body [] (record { start = 0; end = 0 })) (rolls-Body _ _) (refl, refl)
 
   module _ {xs : List Token} (w : Within tokens xs) where
-    stood : (t : Tree) (r : Tree-F Tree) → roll-Tree r ≡ t → Begins xs (span_at r) → (IsPlaced tokens (span_at r) → DoesNodeStand tokens (StandsAt tokens) r) → Stood xs t
+    stood : (t : Tree) (r : Node-F Node Tree) → roll-Node r ≡ t.node → Begins xs (span_at r) → (IsPlaced tokens (span_at r) → DoesNodeStand tokens (StandsAt tokens) r) → Stood xs t
     stood t r e h make = (begun xs t r e h, made t r e (make (placed w h)))
 
     pub statements : (s : Tree) (ss : List Tree) → Stood xs s → Each (Ended xs) ss → StandsAt tokens (body_of (s ∷ ss))
-    statements s ss h all = made _ (Tree-F.Body (s ∷ ss) (across (span_of s) (span_of (last_of s ss)))) (rolls-Body _ _)
+    statements s ss h all = made _ (Node-F.Body (s ∷ ss) (across (span_of s) (span_of (last_of s ss)))) (rolls-Body _ _)
         (placed w (begins-across xs (span_of s) (span_of (last_of s ss)) h.0 (each-last (Ended xs) s ss (ended s stay h) all).0), (h.1, each-weaker (Ended xs) (StandsAt tokens) (λ t k. k.1) ss all))
 
     pub modified : (s : Tree) (word : Modifier) (c : Tree) → Stood xs s → Ended xs c → Stood xs (tree.Modified s word c (across (span_of s) (span_of c)))
-    modified s word c a b = stood _ (Tree-F.Modified s word c (across (span_of s) (span_of c))) (rolls-Modified _ _ _ _) (begins-across xs (span_of s) (span_of c) a.0 b.0) (λ p. (p, a.1, b.1))
+    modified s word c a b = stood _ (Node-F.Modified s word c (across (span_of s) (span_of c))) (rolls-Modified _ _ _ _) (begins-across xs (span_of s) (span_of c) a.0 b.0) (λ p. (p, a.1, b.1))
 
     pub jump : (word : Jump) (s : Span) → Begins xs s → Stood xs (tree.Jump word None s)
-    jump word s h = stood _ (Tree-F.Jump word None s) (rolls-Jump _ _ _) h (λ p. (p, tt))
+    jump word s h = stood _ (Node-F.Jump word None s) (rolls-Jump _ _ _) h (λ p. (p, tt))
 
     pub jump-with : (word : Jump) (s : Span) (v : Tree) → Begins xs s → Ended xs v → Stood xs (tree.Jump word (Some v) (across s (span_of v)))
-    jump-with word s v h a = stood _ (Tree-F.Jump word (Some v) (across s (span_of v))) (rolls-Jump _ _ _) (begins-across xs s (span_of v) h a.0) (λ p. (p, a.1))
+    jump-with word s v h a = stood _ (Node-F.Jump word (Some v) (across s (span_of v))) (rolls-Jump _ _ _) (begins-across xs s (span_of v) h a.0) (λ p. (p, a.1))
 
     pub assign : (target v : Tree) → Stood xs target → Ended xs v → Stood xs (tree.Assign target v (across (span_of target) (span_of v)))
-    assign target v a b = stood _ (Tree-F.Assign target v (across (span_of target) (span_of v))) (rolls-Assign _ _ _) (begins-across xs (span_of target) (span_of v) a.0 b.0) (λ p. (p, a.1, b.1))
+    assign target v a b = stood _ (Node-F.Assign target v (across (span_of target) (span_of v))) (rolls-Assign _ _ _) (begins-across xs (span_of target) (span_of v) a.0 b.0) (λ p. (p, a.1, b.1))
 
     pub operator-assign : (o : Span) (operator : Binary) (target v : Tree) → IsPlaced tokens o → Stood xs target → Ended xs v → Stood xs (tree.OperatorAssign target operator o v (across (span_of target) (span_of v)))
     operator-assign o operator target v h a b =
-        stood _ (Tree-F.OperatorAssign target operator o v (across (span_of target) (span_of v))) (rolls-OperatorAssign _ _ _ _ _) (begins-across xs (span_of target) (span_of v) a.0 b.0) (λ p. (p, a.1, h, b.1))
+        stood _ (Node-F.OperatorAssign target operator o v (across (span_of target) (span_of v))) (rolls-OperatorAssign _ _ _ _ _) (begins-across xs (span_of target) (span_of v) a.0 b.0) (λ p. (p, a.1, h, b.1))
 
     pub command : (callee : Tree) (given : List (Argument Tree)) (b : Option (Block Tree)) → Stood xs callee → Each (Argued xs) given → IfThere (BlockEnded xs) b →
         Stood xs (tree.Command callee given b (across (span_of callee) (block_or (span_of_arguments (span_of callee) given) b)))
     command callee given b c all k =
-        stood _ (Tree-F.Command callee given b (across (span_of callee) (block_or (span_of_arguments (span_of callee) given) b))) (rolls-Command _ _ _ _)
+        stood _ (Node-F.Command callee given b (across (span_of callee) (block_or (span_of_arguments (span_of callee) given) b))) (rolls-Command _ _ _ _)
         (begins-across xs (span_of callee) (block_or (span_of_arguments (span_of callee) given) b) c.0 (command-end xs (span_of callee) given b (ends-of xs (span_of callee) c.0) all k))
         (λ p. (p, c.1, argued xs given all, blocked xs b k))
 
     pub conditional : (c a b : Tree) → Stood xs c → StandsAt tokens a → Ended xs b → Stood xs (tree.Conditional c a b (across (span_of c) (span_of b)))
-    conditional c a b h k l = stood _ (Tree-F.Conditional c a b (across (span_of c) (span_of b))) (rolls-Conditional _ _ _ _) (begins-across xs (span_of c) (span_of b) h.0 l.0) (λ p. (p, h.1, k, l.1))
+    conditional c a b h k l = stood _ (Node-F.Conditional c a b (across (span_of c) (span_of b))) (rolls-Conditional _ _ _ _) (begins-across xs (span_of c) (span_of b) h.0 l.0) (λ p. (p, h.1, k, l.1))
 
     pub binary : (o : Span) (operator : Binary) (a b : Tree) → IsPlaced tokens o → Stood xs a → Ended xs b → Stood xs (tree.Binary operator o a b (across (span_of a) (span_of b)))
-    binary o operator a b h k l = stood _ (Tree-F.Binary operator o a b (across (span_of a) (span_of b))) (rolls-Binary _ _ _ _ _) (begins-across xs (span_of a) (span_of b) k.0 l.0) (λ p. (p, h, k.1, l.1))
+    binary o operator a b h k l = stood _ (Node-F.Binary operator o a b (across (span_of a) (span_of b))) (rolls-Binary _ _ _ _ _) (begins-across xs (span_of a) (span_of b) k.0 l.0) (λ p. (p, h, k.1, l.1))
 
     pub unary : (s : Span) (operator : Unary) (a : Tree) → Begins xs s → Ended xs a → Stood xs (tree.Unary operator a (across s (span_of a)))
-    unary s operator a h k = stood _ (Tree-F.Unary operator a (across s (span_of a))) (rolls-Unary _ _ _) (begins-across xs s (span_of a) h k.0) (λ p. (p, k.1))
+    unary s operator a h k = stood _ (Node-F.Unary operator a (across s (span_of a))) (rolls-Unary _ _ _) (begins-across xs s (span_of a) h k.0) (λ p. (p, k.1))
 
     pub post : (p : Tree) (ss : List (Suffix Tree)) → Stood xs p → Each (Suffixed xs) ss → Stood xs (posted p ss)
     post p [] h all = h
-    post p (s ∷ ss) h all = stood _ (Tree-F.Post p (s ∷ ss) (across (span_of p) (suffix_span (last_of s ss)))) (rolls-Post _ _ _)
+    post p (s ∷ ss) h all = stood _ (Node-F.Post p (s ∷ ss) (across (span_of p) (suffix_span (last_of s ss)))) (rolls-Post _ _ _)
         (begins-across xs (span_of p) (suffix_span (last_of s ss)) h.0 (each-last (Suffixed xs) s ss all.0 all.1).0)
         (λ q. (q, h.1, each-weaker (Suffixed xs) (DoesSuffixStand tokens (StandsAt tokens)) (λ s k. k.1) (s ∷ ss) all))
 
@@ -235,78 +236,78 @@ module _ (tokens : List Token) where
     -- ---- operands
 
     pub whole : (sign : Option Sign) (words : List ℕ) (s : Span) → Begins xs s → Stood xs (tree.Whole sign words s)
-    whole sign words s h = stood _ (Tree-F.Whole sign words s) (rolls-Whole _ _ _) h (λ p. p)
+    whole sign words s h = stood _ (Node-F.Whole sign words s) (rolls-Whole _ _ _) h (λ p. p)
 
     pub float : (sign : Option Sign) (words : List ℕ) (s : Span) → Begins xs s → Stood xs (tree.Float sign words s)
-    float sign words s h = stood _ (Tree-F.Float sign words s) (rolls-Float _ _ _) h (λ p. p)
+    float sign words s h = stood _ (Node-F.Float sign words s) (rolls-Float _ _ _) h (λ p. p)
 
     pub text : (pieces : List (Piece Tree)) (s : Span) → Begins xs s → Each (DoesPieceStand tokens (StandsAt tokens)) pieces → Stood xs (tree.Text pieces s)
-    text pieces s h all = stood _ (Tree-F.Text pieces s) (rolls-Text _ _) h (λ p. (p, all))
+    text pieces s h all = stood _ (Node-F.Text pieces s) (rolls-Text _ _) h (λ p. (p, all))
 
     pub symbol : (words : List ℕ) (s : Span) → Begins xs s → Stood xs (tree.Symbol words s)
-    symbol words s h = stood _ (Tree-F.Symbol words s) (rolls-Symbol _ _) h (λ p. p)
+    symbol words s h = stood _ (Node-F.Symbol words s) (rolls-Symbol _ _) h (λ p. p)
 
     pub instance_variable : (words : List ℕ) (s : Span) → Begins xs s → Stood xs (tree.InstanceVariable words s)
-    instance_variable words s h = stood _ (Tree-F.InstanceVariable words s) (rolls-InstanceVariable _ _) h (λ p. p)
+    instance_variable words s h = stood _ (Node-F.InstanceVariable words s) (rolls-InstanceVariable _ _) h (λ p. p)
 
     pub constant : (words : List ℕ) (s : Span) → Begins xs s → Stood xs (tree.Constant words s)
-    constant words s h = stood _ (Tree-F.Constant words s) (rolls-Constant _ _) h (λ p. p)
+    constant words s h = stood _ (Node-F.Constant words s) (rolls-Constant _ _) h (λ p. p)
 
     pub top-constant : (words : List ℕ) (n s : Span) → IsPlaced tokens n → Begins xs s → Stood xs (tree.TopConstant words n s)
-    top-constant words n s k h = stood _ (Tree-F.TopConstant words n s) (rolls-TopConstant _ _ _) h (λ p. (p, k))
+    top-constant words n s k h = stood _ (Node-F.TopConstant words n s) (rolls-TopConstant _ _ _) h (λ p. (p, k))
 
     pub self-word : (s : Span) → Begins xs s → Stood xs (tree.SelfWord s)
-    self-word s h = stood _ (Tree-F.SelfWord s) (rolls-SelfWord _) h (λ p. p)
+    self-word s h = stood _ (Node-F.SelfWord s) (rolls-SelfWord _) h (λ p. p)
 
     pub nil : (s : Span) → Begins xs s → Stood xs (tree.Nil s)
-    nil s h = stood _ (Tree-F.Nil s) (rolls-Nil _) h (λ p. p)
+    nil s h = stood _ (Node-F.Nil s) (rolls-Nil _) h (λ p. p)
 
     pub true-word : (s : Span) → Begins xs s → Stood xs (tree.True s)
-    true-word s h = stood _ (Tree-F.True s) (rolls-True _) h (λ p. p)
+    true-word s h = stood _ (Node-F.True s) (rolls-True _) h (λ p. p)
 
     pub false-word : (s : Span) → Begins xs s → Stood xs (tree.False s)
-    false-word s h = stood _ (Tree-F.False s) (rolls-False _) h (λ p. p)
+    false-word s h = stood _ (Node-F.False s) (rolls-False _) h (λ p. p)
 
     pub name : (words : List ℕ) (s : Span) → Begins xs s → Stood xs (tree.Name words s)
-    name words s h = stood _ (Tree-F.Name words s) (rolls-Name _ _) h (λ p. p)
+    name words s h = stood _ (Node-F.Name words s) (rolls-Name _ _) h (λ p. p)
 
     pub call : (words : List ℕ) (n : Span) (given : Option (List (Argument Tree))) (b : Option (Block Tree)) (s : Span) → IsPlaced tokens n → IfThere Arguments given → IfThere Blocked b → Begins xs s → Stood xs (tree.Call words n given b s)
-    call words n given b s k all l h = stood _ (Tree-F.Call words n given b s) (rolls-Call _ _ _ _ _) h (λ p. (p, k, all, l))
+    call words n given b s k all l h = stood _ (Node-F.Call words n given b s) (rolls-Call _ _ _ _ _) h (λ p. (p, k, all, l))
 
     pub yield : (given : Option (List (Argument Tree))) (s : Span) → IfThere Arguments given → Begins xs s → Stood xs (tree.Yield given s)
-    yield given s all h = stood _ (Tree-F.Yield given s) (rolls-Yield _ _) h (λ p. (p, all))
+    yield given s all h = stood _ (Node-F.Yield given s) (rolls-Yield _ _) h (λ p. (p, all))
 
     pub super : (given : Option (List (Argument Tree))) (s : Span) → IfThere Arguments given → Begins xs s → Stood xs (tree.Super given s)
-    super given s all h = stood _ (Tree-F.Super given s) (rolls-Super _ _) h (λ p. (p, all))
+    super given s all h = stood _ (Node-F.Super given s) (rolls-Super _ _) h (λ p. (p, all))
 
     pub array : (es : List Tree) (s : Span) → Each (StandsAt tokens) es → Begins xs s → Stood xs (tree.Array es s)
-    array es s all h = stood _ (Tree-F.Array es s) (rolls-Array _ _) h (λ p. (p, all))
+    array es s all h = stood _ (Node-F.Array es s) (rolls-Array _ _) h (λ p. (p, all))
 
     pub hash : (ps : List (Pair Tree)) (s : Span) → Each (DoesPairStand tokens (StandsAt tokens)) ps → Begins xs s → Stood xs (tree.Hash ps s)
-    hash ps s all h = stood _ (Tree-F.Hash ps s) (rolls-Hash _ _) h (λ p. (p, all))
+    hash ps s all h = stood _ (Node-F.Hash ps s) (rolls-Hash _ _) h (λ p. (p, all))
 
     pub parens : (b : Tree) (s : Span) → StandsAt tokens b → Begins xs s → Stood xs (tree.Parens b s)
-    parens b s k h = stood _ (Tree-F.Parens b s) (rolls-Parens _ _) h (λ p. (p, k))
+    parens b s k h = stood _ (Node-F.Parens b s) (rolls-Parens _ _) h (λ p. (p, k))
 
     pub branches : (word : Test) (c b : Tree) (arms : List (Arm Tree)) (e : Option Tree) (s : Span) → StandsAt tokens c → StandsAt tokens b → Each (DoesArmStand tokens (StandsAt tokens)) arms → IfThere (StandsAt tokens) e → Begins xs s → Stood xs (tree.If word c b arms e s)
-    branches word c b arms e s k l all m h = stood _ (Tree-F.If word c b arms e s) (rolls-If _ _ _ _ _ _) h (λ p. (p, k, l, all, m))
+    branches word c b arms e s k l all m h = stood _ (Node-F.If word c b arms e s) (rolls-If _ _ _ _ _ _) h (λ p. (p, k, l, all, m))
 
     pub loops : (word : Test) (c b : Tree) (s : Span) → StandsAt tokens c → StandsAt tokens b → Begins xs s → Stood xs (tree.While word c b s)
-    loops word c b s k l h = stood _ (Tree-F.While word c b s) (rolls-While _ _ _ _) h (λ p. (p, k, l))
+    loops word c b s k l h = stood _ (Node-F.While word c b s) (rolls-While _ _ _ _) h (λ p. (p, k, l))
 
     pub cases : (t : Option Tree) (arms : List (When Tree)) (e : Option Tree) (s : Span) → IfThere (StandsAt tokens) t → Each (DoesWhenStand tokens (StandsAt tokens)) arms → IfThere (StandsAt tokens) e → Begins xs s → Stood xs (tree.Case t arms e s)
-    cases t arms e s k all m h = stood _ (Tree-F.Case t arms e s) (rolls-Case _ _ _ _) h (λ p. (p, k, all, m))
+    cases t arms e s k all m h = stood _ (Node-F.Case t arms e s) (rolls-Case _ _ _ _) h (λ p. (p, k, all, m))
 
     pub begins : (g : Guarded Tree) (s : Span) → DoesGuardedStand tokens (StandsAt tokens) g → Begins xs s → Stood xs (tree.Begin g s)
-    begins g s k h = stood _ (Tree-F.Begin g s) (rolls-Begin _ _) h (λ p. (p, k))
+    begins g s k h = stood _ (Node-F.Begin g s) (rolls-Begin _ _) h (λ p. (p, k))
 
     -- ---- declarations
 
     pub class-of : (path : List PlacedName) (r : Option Reference) (b : Tree) (s : Span) → Each (IsNamePlaced tokens) path → IfThere (IsReferencePlaced tokens) r → StandsAt tokens b → Begins xs s → Stood xs (tree.Class path r b s)
-    class-of path r b s k l m h = stood _ (Tree-F.Class path r b s) (rolls-Class _ _ _ _) h (λ p. (p, k, l, m))
+    class-of path r b s k l m h = stood _ (Node-F.Class path r b s) (rolls-Class _ _ _ _) h (λ p. (p, k, l, m))
 
     pub module-of : (path : List PlacedName) (b : Tree) (s : Span) → Each (IsNamePlaced tokens) path → StandsAt tokens b → Begins xs s → Stood xs (tree.Module path b s)
-    module-of path b s k l h = stood _ (Tree-F.Module path b s) (rolls-Module _ _ _) h (λ p. (p, k, l))
+    module-of path b s k l h = stood _ (Node-F.Module path b s) (rolls-Module _ _ _) h (λ p. (p, k, l))
 
     pub method : (v : Option Visibility) (own : Bool) (words : List ℕ) (n : Span) (ps : List (Parameter Tree)) (g : Guarded Tree) (s : Span) → IsPlaced tokens n → Each (DoesParameterStand tokens (StandsAt tokens)) ps → DoesGuardedStand tokens (StandsAt tokens) g → Begins xs s → Stood xs (tree.Def v own words n ps g s)
-    method v own words n ps g s k all l h = stood _ (Tree-F.Def v own words n ps g s) (rolls-Def _ _ _ _ _ _ _) h (λ p. (p, k, all, l))
+    method v own words n ps g s k all l h = stood _ (Node-F.Def v own words n ps g s) (rolls-Def _ _ _ _ _ _ _) h (λ p. (p, k, all, l))

@@ -1,9 +1,10 @@
 -- That what is read of a form that nests derives.
 use Rattle.std.proofs.Common.{◌≡◌, ℕ, suc, ◌≤◌, Bool, true, false, List, ◌∷◌, sym, ap, subst, ◌∙◌}
-use Rattle.rb_tree.specs.Trees.{span_of, span_at}
-use Rattle.rb_tree.specs.declared.syntax.Tree.{Tree, out-Tree}
-use Rattle.rb_tree.specs.declared.syntax.Tree.TheOpen.{Tree-F}
-use Rattle.rb_tree.specs.declared.syntax.Tree.TheViews.{roll-Tree, out-roll-Tree}
+use Rattle.rb_tree.specs.Trees.{span_of, span_at, span_of_node}
+use Rattle.rb_tree.specs.declared.syntax.Tree.{Tree}
+use Rattle.rb_tree.specs.declared.syntax.Node.{Node, out-Node}
+use Rattle.rb_tree.specs.declared.syntax.Node.TheOpen.{Node-F}
+use Rattle.rb_tree.specs.declared.syntax.Node.TheViews.{roll-Node, out-roll-Node}
 use Rattle.rb_tree.specs.declared.token.Token.{Token}
 use Rattle.rb_tree.specs.declared.token.Shape.TheVariants as shape
 use Rattle.rb_expr.specs.declared.form.Form.{Form}
@@ -21,13 +22,13 @@ abbrev pub Starts : Tree → List Token → Type 0
 Starts t xs = (span_of t).start ≡ start_of xs
 
 -- where a tree of this kind begins, and what it may be used as
-pub starts : (t : Tree) (r : Tree-F Tree) (n : ℕ) → roll-Tree r ≡ t → (span_at r).start ≡ n → (span_of t).start ≡ n
-unfolding span_of
-starts t r n e h = ap (λ u. (span_at (out-Tree u)).start) (sym e) ∙ ap (λ q. (span_at q).start) (out-roll-Tree r) ∙ h
+pub starts : (t : Tree) (r : Node-F Node Tree) (n : ℕ) → roll-Node r ≡ t.node → (span_at r).start ≡ n → (span_of t).start ≡ n
+unfolding span_of span_of_node
+starts t r n e h = ap (λ u. (span_at (out-Node u)).start) (sym e) ∙ ap (λ q. (span_at q).start) (out-roll-Node r) ∙ h
 
-ends : (t : Tree) (r : Tree-F Tree) → roll-Tree r ≡ t → ending_of t ≡ ending_at r
+ends : (t : Tree) (r : Node-F Node Tree) → roll-Node r ≡ t.node → ending_of t ≡ ending_at r
 unfolding ending_of
-ends t r e = ap (λ u. ending_at (out-Tree u)) (sym e) ∙ ap (λ q. ending_at q) (out-roll-Tree r)
+ends t r e = ap (λ u. ending_at (out-Node u)) (sym e) ∙ ap (λ q. ending_at q) (out-roll-Node r)
 
 -- what an operand that ends so may be used as
 abbrev pub Uses : Ending → Bool → Tree → List Token → List Token → Type 0
@@ -41,7 +42,7 @@ Uses ending.Other free t xs ys = Unit {0}
 abbrev pub Primary : Bool → List Token → Tree → List Token → Type 0
 Primary free xs t ys = (last : Token) × DerivesPrimary free t last xs ys × Within xs (last ∷ ys) × Starts t xs × Uses (ending_of t) free t xs ys
 
-pub used : (free : Bool) (t : Tree) (r : Tree-F Tree) (xs ys : List Token) → roll-Tree r ≡ t → Uses (ending_at r) free t xs ys → Uses (ending_of t) free t xs ys
+pub used : (free : Bool) (t : Tree) (r : Node-F Node Tree) (xs ys : List Token) → roll-Node r ≡ t.node → Uses (ending_at r) free t xs ys → Uses (ending_of t) free t xs ys
 used free t r xs ys e h = subst (λ x. Uses x free t xs ys) (sym (ends t r e)) h
 
 -- before a `rescue` that is next, the body may be left where a separator or nothing is between the two

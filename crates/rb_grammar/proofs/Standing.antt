@@ -84,11 +84,11 @@ use Rattle.rb_grammar.proofs.Placed.{each-last, each-weaker, each-end, stay, pas
 
 -- ---- separators
 
-gap : {xs ys : List Token} → Gap xs ys → Within xs ys
+pub gap : {xs ys : List Token} → Gap xs ys → Within xs ys
 gap (Closed _) = stay
 gap (Wide t _ _ _ g) = push t (gap g)
 
-gap-in : {b : Bool} {xs ys : List Token} → GapIn b xs ys → Within xs ys
+pub gap-in : {b : Bool} {xs ys : List Token} → GapIn b xs ys → Within xs ys
 gap-in (Tight _) = stay
 gap-in (Loose _ _ g) = gap g
 
@@ -157,7 +157,7 @@ module _ (tokens : List Token) where
   abbrev NamesEnded : List Token → List PlacedName → Type 0
   NamesEnded xs = Each (NameEnded xs)
 
-  path-of : {long : Bool} {names : List PlacedName} {xs ys : List Token} → Path long names xs ys → In xs → Within xs ys × First xs names × NamesEnded xs names
+  pub path-of : {long : Bool} {names : List PlacedName} {xs ys : List Token} → Path long names xs ys → In xs → Within xs ys × First xs names × NamesEnded xs names
   path-of (LastName _ t _ xs _) i = (push t stay, begins-at t xs, ((ends-of (t ∷ xs) t.span (begins-at t xs), token-placed tokens t i), tt))
   path-of (MoreNames t c _ more xs _ _ _ d) i = let a = path-of d (past c (past t i)) in (
     push t (push c a.0),
@@ -175,7 +175,7 @@ module _ (tokens : List Token) where
   variable (NoVariable _) i = (stay, tt)
   variable (Bound a t _ _ _ _) i = (push a (push t stay), token-placed tokens t (past a i))
 
-  superclass : {r : Option Reference} {xs ys : List Token} → Superclass r xs ys → In xs → Within xs ys × IfThere (IsReferencePlaced tokens) r
+  pub superclass : {r : Option Reference} {xs ys : List Token} → Superclass r xs ys → In xs → Within xs ys × IfThere (IsReferencePlaced tokens) r
   superclass (NoSuperclass _) i = (stay, tt)
   superclass (Named l n more xs _ _ d) i = let a = path-of d (past l i) in
       (push l a.0, (placed tokens (past l i) (begins-across xs n.span (last_of n more).span a.1 (each-last (NameEnded xs) n more a.2.0 a.2.1).0), names-of xs (n ∷ more) a.2))
@@ -201,7 +201,7 @@ module _ (tokens : List Token) where
   -- ---- the forms
 
   mutual
-    body : {at : Site} {free : Bool} {t : Tree} {xs ys : List Token} → DerivesBody at free t xs ys → In xs → Within xs ys × Stands t
+    pub body : {at : Site} {free : Bool} {t : Tree} {xs ys : List Token} → DerivesBody at free t xs ys → In xs → Within xs ys × Stands t
     body (NoStatement _ _ _ _ g) i = (gap g, node.no-statement tokens)
     body (Statements _ _ s ss _ _ _ _ _ g d more h) i =
         let j = go i (gap g) in let a = statement d j in let b = others more (go j a.0) in
@@ -213,7 +213,7 @@ module _ (tokens : List Token) where
         let u = push t (gap g) in let a = statement d (go i u) in let v = go u a.0 in let b = others more (go i v) in
         (go v b.0, (ended tokens s u a.1, all-ended tokens ss v b.1))
 
-    statement : {at : Site} {free : Bool} {t : Tree} {xs ys : List Token} → DerivesStatement at free t xs ys → In xs → Within xs ys × Stood tokens xs t
+    pub statement : {at : Site} {free : Bool} {t : Tree} {xs ys : List Token} → DerivesStatement at free t xs ys → In xs → Within xs ys × Stood tokens xs t
     statement (Declared _ _ _ _ _ _ d) i = declaration d i
     statement (Simply _ _ _ _ _ _ _ d m) i = let a = simple d i in let b = modified m i a.0 a.1 in (go a.0 b.0, b.1)
 
@@ -223,7 +223,7 @@ module _ (tokens : List Token) where
         let v = past m u in let a = simple d (go i v) in let b = modified k i (go v a.0) (node.modified tokens i s word c h (ended tokens c v a.1)) in
         (push m (go a.0 b.0), b.1)
 
-    simple : {constants free : Bool} {t : Tree} {xs ys : List Token} → DerivesSimple constants free t xs ys → In xs → Within xs ys × Stood tokens xs t
+    pub simple : {constants free : Bool} {t : Tree} {xs ys : List Token} → DerivesSimple constants free t xs ys → In xs → Within xs ys × Stood tokens xs t
     simple (Valued _ _ _ _ _ d) i = value d i
     simple (Jumps _ _ j word xs _) i = (push j stay, node.jump tokens i word j.span (begins-at j xs))
     simple (JumpsWith _ _ j word v xs _ _ _ d) i = let a = value d (past j i) in (push j a.0, node.jump-with tokens i word j.span v (begins-at j xs) (ended tokens v (push j stay) a.1))
@@ -237,7 +237,7 @@ module _ (tokens : List Token) where
         let c = callee d i in let a = arguments e (go i c.0) in let u = go c.0 a.0 in let l = do-behind k (go i u) in
         (go u l.0, node.command tokens i x given b c.1 (all-argued tokens given c.0 a.1) (if-ended tokens b u l.1))
 
-    target : {constants free : Bool} {t : Tree} {xs ys : List Token} → DerivesTarget constants free t xs ys → In xs → Within xs ys × Stood tokens xs t
+    pub target : {constants free : Bool} {t : Tree} {xs ys : List Token} → DerivesTarget constants free t xs ys → In xs → Within xs ys × Stood tokens xs t
     target (Variable _ _ t w xs _) i = (push t stay, node.name tokens i w t.span (begins-at t xs))
     target (Instance _ _ t w xs _) i = (push t stay, node.instance_variable tokens i w t.span (begins-at t xs))
     target (Constant _ t w xs _) i = (push t stay, node.constant tokens i w t.span (begins-at t xs))
@@ -246,7 +246,7 @@ module _ (tokens : List Token) where
     target (Element _ _ _ _ r ss s _ _ _ e k) i = let a = operand e i in let b = index k (go i a.0) in
         (go a.0 b.0, node.post-more tokens i r ss s a.1 a.2 (ends-behind a.0 b.1.0, b.1.1))
 
-    callee : {free : Bool} {t : Tree} {xs ys : List Token} → DerivesCallee free t xs ys → In xs → Within xs ys × Stood tokens xs t
+    pub callee : {free : Bool} {t : Tree} {xs ys : List Token} → DerivesCallee free t xs ys → In xs → Within xs ys × Stood tokens xs t
     callee (Own _ t w xs _) i = (push t stay, node.name tokens i w t.span (begins-at t xs))
     callee (Of _ _ d n how r ss w xs ys e _ _) i = let a = operand e i in
         (past n (past d a.0), node.post-more tokens i r ss (named_call d how n w) a.1 a.2 (call-of xs ys d how n w i a.0))
@@ -258,12 +258,12 @@ module _ (tokens : List Token) where
     arguments (MoreArguments _ _ c _ more _ _ _ _ d _ g m) i = let a = argument d i in let u = go (past c a.0) (gap-in g) in let b = arguments m (go i u) in
         (go u b.0, (a.1, all-argued tokens more u b.1))
 
-    argument : {free : Bool} {a : Argument Tree} {xs ys : List Token} → DerivesArgument free a xs ys → In xs → Within xs ys × Argued tokens xs a
+    pub argument : {free : Bool} {a : Argument Tree} {xs ys : List Token} → DerivesArgument free a xs ys → In xs → Within xs ys × Argued tokens xs a
     argument (ByPlace _ t _ _ d) i = let a = term d i in (a.0, ended tokens t stay a.1)
     argument (ByName _ l _ t _ _ _ d) i = let a = term d (past l i) in let e = ended tokens t (push l stay) a.1 in (push l a.0, (e.0, (token-placed tokens l i, e.1)))
     argument (AsBlock _ l t _ _ _ d) i = let a = term d (past l i) in let e = ended tokens t (push l stay) a.1 in (push l a.0, (e.0, (token-placed tokens l i, e.1)))
 
-    term : {free : Bool} {t : Tree} {xs ys : List Token} → DerivesTerm free t xs ys → In xs → Within xs ys × Stood tokens xs t
+    pub term : {free : Bool} {t : Tree} {xs ys : List Token} → DerivesTerm free t xs ys → In xs → Within xs ys × Stood tokens xs t
     term (Operated _ _ _ _ d) i = level d i
     term (Conditional _ q k c a b _ _ _ _ d _ e _ f) i =
         let x = level d i in let u = past q x.0 in let y = term e (go i u) in let v = go u (past k y.0) in let z = term f (go i v) in
@@ -284,7 +284,7 @@ module _ (tokens : List Token) where
     prefixed (Prefixed _ m operator a xs _ _ _ d) i = let x = prefixed d (past m i) in (push m x.0, node.unary tokens i m.span operator a (begins-at m xs) (ended tokens a (push m stay) x.1))
     prefixed (Posted _ _ p ss _ _ d) i = let a = operand d i in (a.0, node.post tokens i p ss a.1 a.2)
 
-    operand : {free : Bool} {p : Tree} {ss : List (Suffix Tree)} {last : Token} {xs ys : List Token} → DerivesOperand free p ss last xs ys → In xs → Within xs ys × Stood tokens xs p × Each (SuffixEnded tokens xs) ss
+    pub operand : {free : Bool} {p : Tree} {ss : List (Suffix Tree)} {last : Token} {xs ys : List Token} → DerivesOperand free p ss last xs ys → In xs → Within xs ys × Stood tokens xs p × Each (SuffixEnded tokens xs) ss
     operand (Bare _ _ _ _ _ d) i = let a = primary d i in (a.0, a.1, tt)
     operand (Suffixed _ _ _ _ ss s xs _ _ d e) i = let a = operand d i in let b = suffix e (go i a.0) in
         (go a.0 b.0, a.1, each-end (SuffixEnded tokens xs) ss s a.2 (ends-behind a.0 b.1.0, b.1.1))

@@ -10,10 +10,11 @@ use Rattle.rb_tree.specs.declared.syntax.Block.{Block}
 use Rattle.rb_tree.specs.declared.syntax.Jump.{Jump}
 use Rattle.rb_tree.specs.declared.syntax.Modifier.{Modifier}
 use Rattle.rb_tree.specs.declared.syntax.Modifier.TheVariants as modifier
-use Rattle.rb_tree.specs.declared.syntax.Tree.{Tree, out-Tree}
-use Rattle.rb_tree.specs.declared.syntax.Tree.TheOpen.{Tree-F}
-use Rattle.rb_tree.specs.declared.syntax.Tree.TheVariants as tree
-use Rattle.rb_tree.specs.declared.syntax.Tree.TheVariants.{rolls-Assign, rolls-OperatorAssign, rolls-Command, rolls-Jump, rolls-Modified}
+use Rattle.rb_tree.specs.declared.syntax.Tree.{Tree}
+use Rattle.rb_tree.specs.declared.syntax.Node.{Node, out-Node}
+use Rattle.rb_tree.specs.declared.syntax.Node.TheOpen.{Node-F}
+use Rattle.rb_tree.specs.Nodes as tree
+use Rattle.rb_tree.specs.declared.syntax.Node.TheVariants.{rolls-Assign, rolls-OperatorAssign, rolls-Command, rolls-Jump, rolls-Modified}
 use Rattle.rb_tree.specs.declared.token.Token.{Token}
 use Rattle.rb_tree.specs.declared.token.Shape.{Shape}
 use Rattle.rb_tree.specs.declared.token.Shape.TheVariants as shape
@@ -94,13 +95,13 @@ abbrev Allowing : Tree → Shape → Option Modifier → Type 0
 Allowing inner s None = Unit {0}
 Allowing inner s (Some word) = IsRow MODIFIER_WORDS s word × MayModify word inner
 
-same-begin-at : (r : Tree-F Tree) → spec.is_begin_at r ≡ is_begin_at r
-same-begin-at (Tree-F.Begin guarded span) = refl
+same-begin-at : (r : Node-F Node Tree) → spec.is_begin_at r ≡ is_begin_at r
+same-begin-at (Node-F.Begin guarded span) = refl
 same-begin-at r = refl
 
 pub same-begin : (t : Tree) → spec.is_begin t ≡ is_begin t
 unfolding spec.is_begin is_begin
-same-begin t = same-begin-at (out-Tree t)
+same-begin t = same-begin-at (out-Node t.node)
 
 not-true : (b : Bool) → not b ≡ true → b ≡ false
 not-true true e = absurd (cc)

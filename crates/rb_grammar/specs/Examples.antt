@@ -8,7 +8,7 @@ use Rattle.rb_tree.specs.declared.syntax.Jump.TheVariants as jump
 use Rattle.rb_tree.specs.declared.syntax.Modifier.TheVariants as modifier
 use Rattle.rb_tree.specs.declared.syntax.Suffix.TheVariants as suffix
 use Rattle.rb_tree.specs.declared.syntax.Tree.{Tree}
-use Rattle.rb_tree.specs.declared.syntax.Tree.TheVariants as tree
+use Rattle.rb_tree.specs.Nodes as tree
 use Rattle.rb_tree.specs.declared.syntax.Unary.TheVariants as unary
 use Rattle.rb_tree.specs.declared.token.Token.{Token}
 use Rattle.rb_tree.specs.declared.token.TokenKind.{TokenKind}

@@ -2,9 +2,10 @@
 use Rattle.std.specs.Prelude.{◌≡◌, ◌↔◌, ◌⊎◌, List, [], ◌∷◌, Option, Some, None}
 use Rattle.srb_terms.specs.declared.span.Span.{Span}
 use Rattle.rb_tree.specs.declared.token.Token.{Token}
-use Rattle.rb_tree.specs.declared.syntax.Tree.{Tree, out-Tree}
-use Rattle.rb_tree.specs.declared.syntax.Tree.TheOpen.{Tree-F}
-use Rattle.rb_tree.specs.declared.syntax.Tree.TheFolds.{rec-Tree}
+use Rattle.rb_tree.specs.declared.syntax.Tree.{Tree}
+use Rattle.rb_tree.specs.declared.syntax.Node.{out-Node}
+use Rattle.rb_tree.specs.declared.syntax.Node.TheOpen.{Node-F}
+use Rattle.rb_tree.specs.declared.syntax.Node.TheFolds.{rec-Tree}
 use Rattle.rb_tree.specs.declared.syntax.Suffix.{Suffix}
 use Rattle.rb_tree.specs.declared.syntax.Suffix.TheVariants as suffix
 use Rattle.rb_tree.specs.declared.syntax.Argument.{Argument}
@@ -101,57 +102,57 @@ module _ (tokens : List Token) where
     DoesGuardedStand g = Stands g.body × Each DoesRescueStand g.rescues × IfThere Stands g.otherwise × IfThere Stands g.ensure
 
     -- a node
-    abbrev pub DoesNodeStand : Tree-F X → Type 0
-    DoesNodeStand (Tree-F.Body statements span) = DoStatementsStand statements span
-    DoesNodeStand (Tree-F.Modified statement modifier condition span) = IsPlaced tokens span × Stands statement × Stands condition
-    DoesNodeStand (Tree-F.Jump jump value span) = IsPlaced tokens span × IfThere Stands value
-    DoesNodeStand (Tree-F.Assign target value span) = IsPlaced tokens span × Stands target × Stands value
-    DoesNodeStand (Tree-F.OperatorAssign target operator operator_span value span) =
+    abbrev pub DoesNodeStand : {N : Type 0} → Node-F N X → Type 0
+    DoesNodeStand (Node-F.Body statements span) = DoStatementsStand statements span
+    DoesNodeStand (Node-F.Modified statement modifier condition span) = IsPlaced tokens span × Stands statement × Stands condition
+    DoesNodeStand (Node-F.Jump jump value span) = IsPlaced tokens span × IfThere Stands value
+    DoesNodeStand (Node-F.Assign target value span) = IsPlaced tokens span × Stands target × Stands value
+    DoesNodeStand (Node-F.OperatorAssign target operator operator_span value span) =
         IsPlaced tokens span × Stands target × IsPlaced tokens operator_span × Stands value
-    DoesNodeStand (Tree-F.Command callee arguments block span) =
+    DoesNodeStand (Node-F.Command callee arguments block span) =
         IsPlaced tokens span × Stands callee × Each DoesArgumentStand arguments × IfThere DoesBlockStand block
-    DoesNodeStand (Tree-F.Conditional condition positive negative span) = IsPlaced tokens span × Stands condition × Stands positive × Stands negative
-    DoesNodeStand (Tree-F.Binary operator operator_span left right span) = IsPlaced tokens span × IsPlaced tokens operator_span × Stands left × Stands right
-    DoesNodeStand (Tree-F.Unary operator operand span) = IsPlaced tokens span × Stands operand
-    DoesNodeStand (Tree-F.Post receiver suffixes span) = IsPlaced tokens span × Stands receiver × Each DoesSuffixStand suffixes
-    DoesNodeStand (Tree-F.Whole sign words span) = IsPlaced tokens span
-    DoesNodeStand (Tree-F.Float sign words span) = IsPlaced tokens span
-    DoesNodeStand (Tree-F.Text pieces span) = IsPlaced tokens span × Each DoesPieceStand pieces
-    DoesNodeStand (Tree-F.Symbol words span) = IsPlaced tokens span
-    DoesNodeStand (Tree-F.InstanceVariable name span) = IsPlaced tokens span
-    DoesNodeStand (Tree-F.Constant name span) = IsPlaced tokens span
-    DoesNodeStand (Tree-F.TopConstant name name_span span) = IsPlaced tokens span × IsPlaced tokens name_span
-    DoesNodeStand (Tree-F.SelfWord span) = IsPlaced tokens span
-    DoesNodeStand (Tree-F.Nil span) = IsPlaced tokens span
-    DoesNodeStand (Tree-F.True span) = IsPlaced tokens span
-    DoesNodeStand (Tree-F.False span) = IsPlaced tokens span
-    DoesNodeStand (Tree-F.Name name span) = IsPlaced tokens span
-    DoesNodeStand (Tree-F.Call name name_span arguments block span) =
+    DoesNodeStand (Node-F.Conditional condition positive negative span) = IsPlaced tokens span × Stands condition × Stands positive × Stands negative
+    DoesNodeStand (Node-F.Binary operator operator_span left right span) = IsPlaced tokens span × IsPlaced tokens operator_span × Stands left × Stands right
+    DoesNodeStand (Node-F.Unary operator operand span) = IsPlaced tokens span × Stands operand
+    DoesNodeStand (Node-F.Post receiver suffixes span) = IsPlaced tokens span × Stands receiver × Each DoesSuffixStand suffixes
+    DoesNodeStand (Node-F.Whole sign words span) = IsPlaced tokens span
+    DoesNodeStand (Node-F.Float sign words span) = IsPlaced tokens span
+    DoesNodeStand (Node-F.Text pieces span) = IsPlaced tokens span × Each DoesPieceStand pieces
+    DoesNodeStand (Node-F.Symbol words span) = IsPlaced tokens span
+    DoesNodeStand (Node-F.InstanceVariable name span) = IsPlaced tokens span
+    DoesNodeStand (Node-F.Constant name span) = IsPlaced tokens span
+    DoesNodeStand (Node-F.TopConstant name name_span span) = IsPlaced tokens span × IsPlaced tokens name_span
+    DoesNodeStand (Node-F.SelfWord span) = IsPlaced tokens span
+    DoesNodeStand (Node-F.Nil span) = IsPlaced tokens span
+    DoesNodeStand (Node-F.True span) = IsPlaced tokens span
+    DoesNodeStand (Node-F.False span) = IsPlaced tokens span
+    DoesNodeStand (Node-F.Name name span) = IsPlaced tokens span
+    DoesNodeStand (Node-F.Call name name_span arguments block span) =
         IsPlaced tokens span × IsPlaced tokens name_span × IfThere (Each DoesArgumentStand) arguments × IfThere DoesBlockStand block
-    DoesNodeStand (Tree-F.Yield arguments span) = IsPlaced tokens span × IfThere (Each DoesArgumentStand) arguments
-    DoesNodeStand (Tree-F.Super arguments span) = IsPlaced tokens span × IfThere (Each DoesArgumentStand) arguments
-    DoesNodeStand (Tree-F.Array elements span) = IsPlaced tokens span × Each Stands elements
-    DoesNodeStand (Tree-F.Hash pairs span) = IsPlaced tokens span × Each DoesPairStand pairs
-    DoesNodeStand (Tree-F.Parens body span) = IsPlaced tokens span × Stands body
-    DoesNodeStand (Tree-F.If test condition body arms otherwise span) =
+    DoesNodeStand (Node-F.Yield arguments span) = IsPlaced tokens span × IfThere (Each DoesArgumentStand) arguments
+    DoesNodeStand (Node-F.Super arguments span) = IsPlaced tokens span × IfThere (Each DoesArgumentStand) arguments
+    DoesNodeStand (Node-F.Array elements span) = IsPlaced tokens span × Each Stands elements
+    DoesNodeStand (Node-F.Hash pairs span) = IsPlaced tokens span × Each DoesPairStand pairs
+    DoesNodeStand (Node-F.Parens body span) = IsPlaced tokens span × Stands body
+    DoesNodeStand (Node-F.If test condition body arms otherwise span) =
         IsPlaced tokens span × Stands condition × Stands body × Each DoesArmStand arms × IfThere Stands otherwise
-    DoesNodeStand (Tree-F.While test condition body span) = IsPlaced tokens span × Stands condition × Stands body
-    DoesNodeStand (Tree-F.Case subject arms otherwise span) =
+    DoesNodeStand (Node-F.While test condition body span) = IsPlaced tokens span × Stands condition × Stands body
+    DoesNodeStand (Node-F.Case subject arms otherwise span) =
         IsPlaced tokens span × IfThere Stands subject × Each DoesWhenStand arms × IfThere Stands otherwise
-    DoesNodeStand (Tree-F.Begin guarded span) = IsPlaced tokens span × DoesGuardedStand guarded
-    DoesNodeStand (Tree-F.Class path superclass body span) =
+    DoesNodeStand (Node-F.Begin guarded span) = IsPlaced tokens span × DoesGuardedStand guarded
+    DoesNodeStand (Node-F.Class path superclass body span) =
         IsPlaced tokens span × Each IsNamePlaced path × IfThere IsReferencePlaced superclass × Stands body
-    DoesNodeStand (Tree-F.Module path body span) = IsPlaced tokens span × Each IsNamePlaced path × Stands body
-    DoesNodeStand (Tree-F.Def visibility own name name_span parameters guarded span) =
+    DoesNodeStand (Node-F.Module path body span) = IsPlaced tokens span × Each IsNamePlaced path × Stands body
+    DoesNodeStand (Node-F.Def visibility own name name_span parameters guarded span) =
         IsPlaced tokens span × IsPlaced tokens name_span × Each DoesParameterStand parameters × DoesGuardedStand guarded
 
   -- each node of the tree stands at the tokens
   unfoldable pub StandsAt : Tree → Type 0
-  StandsAt = rec-Tree (Type 0) (λ X tree stands node. DoesNodeStand stands node)
+  StandsAt = rec-Tree (Type 0) (Type 0) (λ N X node tree node_stands stands n. DoesNodeStand stands n) (λ N X node tree node_stands stands t. node_stands t.node)
 
 -- a tree stands exactly where its node does, and the trees in it
 abbrev pub TreesStandByNodes : Type 0
-TreesStandByNodes = (tokens : List Token) (t : Tree) → StandsAt tokens t ↔ DoesNodeStand tokens (StandsAt tokens) (out-Tree t)
+TreesStandByNodes = (tokens : List Token) (t : Tree) → StandsAt tokens t ↔ DoesNodeStand tokens (StandsAt tokens) (out-Node t.node)
 
 -- The tree of a program stands at its tokens.
 abbrev pub TreesStandAtTokens : Type 0

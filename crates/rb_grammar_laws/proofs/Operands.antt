@@ -10,7 +10,7 @@ use Rattle.rb_tree.specs.declared.syntax.Piece.TheVariants as piece
 use Rattle.rb_tree.specs.declared.syntax.Sign.{Sign}
 use Rattle.rb_tree.specs.declared.syntax.Sign.TheVariants as sign
 use Rattle.rb_tree.specs.declared.syntax.Tree.{Tree}
-use Rattle.rb_tree.specs.declared.syntax.Tree.TheVariants as tree
+use Rattle.rb_tree.specs.Nodes as tree
 use Rattle.rb_tree.specs.declared.token.Token.{Token}
 use Rattle.rb_tree.specs.declared.token.Shape.{Shape}
 use Rattle.rb_tree.specs.declared.token.Shape.TheVariants as shape

@@ -5,11 +5,12 @@ use Rattle.rb_tree.specs.Trees.{span_of}
 use Rattle.rb_tree.specs.declared.syntax.Jump.{Jump}
 use Rattle.rb_tree.specs.declared.syntax.Modifier.{Modifier}
 use Rattle.rb_tree.specs.declared.syntax.Modifier.TheVariants as modifier
-use Rattle.rb_tree.specs.declared.syntax.Tree.{Tree, out-Tree}
-use Rattle.rb_tree.specs.declared.syntax.Tree.TheOpen.{Tree-F}
-use Rattle.rb_tree.specs.declared.syntax.Tree.TheViews.{roll-Tree, out-roll-Tree}
-use Rattle.rb_tree.specs.declared.syntax.Tree.TheVariants.{rolls-Body}
-use Rattle.rb_tree.specs.declared.syntax.Tree.TheVariants as tree
+use Rattle.rb_tree.specs.declared.syntax.Tree.{Tree}
+use Rattle.rb_tree.specs.declared.syntax.Node.{Node, out-Node}
+use Rattle.rb_tree.specs.declared.syntax.Node.TheOpen.{Node-F}
+use Rattle.rb_tree.specs.declared.syntax.Node.TheViews.{roll-Node, out-roll-Node}
+use Rattle.rb_tree.specs.declared.syntax.Node.TheVariants.{rolls-Body}
+use Rattle.rb_tree.specs.Nodes as tree
 use Rattle.rb_tree.specs.declared.token.Token.{Token}
 use Rattle.rb_tree.specs.declared.token.Shape.TheVariants as shape
 use Rattle.rb_expr.specs.declared.form.Form.{Form}
@@ -160,21 +161,21 @@ more-ends at free ss qs rs (NoMore _ _ _) h = h
 more-ends at free ss qs rs (Another _ _ t s more us ps vs _ is gap d e) h = ends-by STATEMENT_ENDS shape.Separator refl refl free t us is
 
 -- a body of statements is not empty
-has_statements_at : {X : Type 0} → Tree-F X → Bool
-has_statements_at (Tree-F.Body [] span) = false
+has_statements_at : {X Y : Type 0} → Node-F X Y → Bool
+has_statements_at (Node-F.Body [] span) = false
 has_statements_at t = true
 
 has_statements : Tree → Bool
-has_statements t = has_statements_at (out-Tree t)
+has_statements t = has_statements_at (out-Node t.node)
 
-statements-as : (t : Tree) (r : Tree-F Tree) → roll-Tree r ≡ t → has_statements t ≡ has_statements_at r
+statements-as : (t : Tree) (r : Node-F Node Tree) → roll-Node r ≡ t.node → has_statements t ≡ has_statements_at r
 unfolding has_statements
-statements-as t r e = ap (λ u. has_statements_at (out-Tree u)) (sym e) ∙ ap (λ q. has_statements_at q) (out-roll-Tree r)
+statements-as t r e = ap (λ u. has_statements_at (out-Node u)) (sym e) ∙ ap (λ q. has_statements_at q) (out-roll-Node r)
 
 not-empty : (s : Tree) (ss : List Tree) → body_of [] ≡ body_of (s ∷ ss) → ⊥
 unfolding has_statements_at
 not-empty s ss e =
-    let f : false ≡ true = sym (statements-as _ (Tree-F.Body [] (record { start = 0; end = 0 })) (rolls-Body _ _)) ∙ ap has_statements e ∙ statements-as _ (Tree-F.Body (s ∷ ss) (across (span_of s) (span_of (last_of s ss)))) (rolls-Body _ _) in
+    let f : false ≡ true = sym (statements-as _ (Node-F.Body [] (record { start = 0; end = 0 })) (rolls-Body _ _)) ∙ ap has_statements e ∙ statements-as _ (Node-F.Body (s ∷ ss) (across (span_of s) (span_of (last_of s ss)))) (rolls-Body _ _) in
     absurd (cc)
 
 parted-by : (before : Tree) (ps : List Token) (k : Token) (qs : List Token) → Parted before ps (k ∷ qs) → (body_of [] ≡ before) ⊎ ((t : Token) × Is shape.Separator t × (ps ≡ t ∷ k ∷ qs))

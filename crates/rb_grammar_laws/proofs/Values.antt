@@ -10,11 +10,12 @@ use Rattle.rb_tree.specs.declared.syntax.Block.{Block}
 use Rattle.rb_tree.specs.declared.syntax.Dot.{Dot}
 use Rattle.rb_tree.specs.declared.syntax.Dot.TheVariants as dot
 use Rattle.rb_tree.specs.declared.syntax.Suffix.{Suffix}
-use Rattle.rb_tree.specs.declared.syntax.Tree.{Tree, out-Tree}
-use Rattle.rb_tree.specs.declared.syntax.Tree.TheOpen.{Tree-F}
-use Rattle.rb_tree.specs.declared.syntax.Tree.TheViews.{roll-Tree, out-roll-Tree}
-use Rattle.rb_tree.specs.declared.syntax.Tree.TheVariants as tree
-use Rattle.rb_tree.specs.declared.syntax.Tree.TheVariants.{rolls-Name, rolls-InstanceVariable, rolls-Constant, rolls-Yield, rolls-Super, rolls-Post}
+use Rattle.rb_tree.specs.declared.syntax.Tree.{Tree}
+use Rattle.rb_tree.specs.declared.syntax.Node.{Node, out-Node}
+use Rattle.rb_tree.specs.declared.syntax.Node.TheOpen.{Node-F}
+use Rattle.rb_tree.specs.declared.syntax.Node.TheViews.{roll-Node, out-roll-Node}
+use Rattle.rb_tree.specs.Nodes as tree
+use Rattle.rb_tree.specs.declared.syntax.Node.TheVariants.{rolls-Name, rolls-InstanceVariable, rolls-Constant, rolls-Yield, rolls-Super, rolls-Post}
 use Rattle.rb_tree.specs.declared.token.Token.{Token}
 use Rattle.rb_tree.specs.declared.token.Shape.{Shape}
 use Rattle.rb_tree.specs.declared.token.Shape.TheVariants as shape
@@ -57,9 +58,9 @@ use Rattle.rb_grammar_laws.proofs.Operators.{operand-front, tern-read, term-firs
 
 -- ---- what an operand may be followed by
 
-ends-as : (t : Tree) (r : Tree-F Tree) → roll-Tree r ≡ t → ending_of t ≡ ending_at r
+ends-as : (t : Tree) (r : Node-F Node Tree) → roll-Node r ≡ t.node → ending_of t ≡ ending_at r
 unfolding ending_of
-ends-as t r e = ap (λ u. ending_at (out-Tree u)) (sym e) ∙ ap (λ q. ending_at q) (out-roll-Tree r)
+ends-as t r e = ap (λ u. ending_at (out-Node u)) (sym e) ∙ ap (λ q. ending_at q) (out-roll-Node r)
 
 -- an operand with a suffix ends as that
 posted-ends : (r : Tree) (ss : List (Suffix Tree)) (s : Suffix Tree) → ending_of (posted r (ss ++ s ∷ [])) ≡ ending_of_suffix s

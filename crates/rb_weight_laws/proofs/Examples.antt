@@ -2,12 +2,12 @@
 use Rattle.std.proofs.Common.{◌≡◌, ℕ, Bool, true, false, List, [], ◌∷◌, codes, None, inl, refl, sym, ◌∙◌, arith}
 use Rattle.rb_tree.specs.Tokens as tokens
 use Rattle.rb_tree.specs.Trees as trees
-use Rattle.rb_tree.specs.declared.syntax.Tree as syntax
+use Rattle.rb_tree.specs.declared.syntax.Node as syntax
 use Rattle.rb_tree.specs.declared.syntax.Binary.TheVariants as binary
 use Rattle.rb_tree.specs.declared.syntax.Modifier.TheVariants as modifier
 use Rattle.rb_tree.specs.declared.syntax.Test.TheVariants as test
 use Rattle.rb_tree.specs.declared.syntax.Tree.{Tree}
-use Rattle.rb_tree.specs.declared.syntax.Tree.TheVariants as tree
+use Rattle.rb_tree.specs.Nodes as tree
 use Rattle.rb_tree.specs.declared.token.Token.{Token}
 use denote.Hole.Carrier as carrier
 use Rattle.rb_rules.specs.Tokens.{IsIdentifier}
@@ -87,12 +87,12 @@ simply : (at : Site) {free : Bool} {t : Tree} {xs ys : List Token} → DerivesSi
 simply at {free = free} {t = t} {xs = xs} {ys = ys} d = body-with (Simply at free t t xs ys ys d (Unmodified free t ys))
 
 modified : Derives MODIFIED MODIFIED_TREE
-unfolding syntax.out-Tree carrier.out tokens.shape_of trees.span_of
+unfolding syntax.out-Node carrier.out tokens.shape_of trees.span_of trees.span_of_node
 modified = body-with (Simply Top true (tree.Name (codes "x") (from_to 0 1)) _ MODIFIED _ [] (name-of true true _ (codes "x") _ refl)
     (Modified true _ modifier.If _ _ _ _ [] [] (inl (refl, refl)) (inl refl) (name-of false true _ (codes "y") [] refl) (Unmodified true _ [])))
 
 loop : Derives LOOP LOOP_TREE
-unfolding syntax.out-Tree carrier.out tokens.shape_of trees.span_of
+unfolding syntax.out-Node carrier.out tokens.shape_of trees.span_of trees.span_of_node
 loop = simply Top (simple-of true
     (Loops true _ _ _ test.Positive _ _ _ _ [] (inl (refl, refl)) (name-of false false _ (codes "x") _ refl) (inl refl) (simply Inside (name-of false true _ (codes "y") _ refl)) refl))
 
@@ -100,20 +100,20 @@ abbrev SUM : List Token → List Token
 SUM rest = token (kind.Identifier (codes "a")) 8 9 ∷ token kind.Plus 10 11 ∷ token (kind.Whole (codes "1")) 12 13 ∷ rest
 
 sum : (rest : List Token) → DerivesLevel 7 true (tree.Binary binary.Plus (from_to 10 11) (tree.Name (codes "a") (from_to 8 9)) (digit (codes "1") 12) (from_to 8 13)) (SUM rest) rest
-unfolding syntax.out-Tree carrier.out tokens.shape_of trees.span_of
+unfolding syntax.out-Node carrier.out tokens.shape_of trees.span_of trees.span_of_node
 sum rest = FromLeft 7 true _ binary.Plus _ _ (SUM rest) _ rest (λ e. absurd (omega arith))
     (sum-level (operand-of (NameAlone true _ (codes "a") _ refl)))
     (record { row = _; on_level = refl; listed = inl (refl, refl) })
     (Tighter 8 true _ _ rest (omega arith) (operand-of (WholeNumber true _ (codes "1") rest refl)))
 
 block : Derives BLOCK BLOCK_TREE
-unfolding syntax.out-Tree carrier.out tokens.shape_of trees.span_of
+unfolding syntax.out-Node carrier.out tokens.shape_of trees.span_of trees.span_of_node
 block = simply Top (simple-of true
     (CallWithBlock true _ _ (codes "f") _ _ [] refl
     (Braces true _ _ _ _ _ _ [] refl (SomeBars _ _ _ _ _ refl (LastBar _ (codes "a") _ refl) refl (tt, tt)) (simply Inside (Valued false true _ _ _ (Term false true _ _ _ (term-of (sum _))))) refl)))
 
 method : Derives METHOD METHOD_TREE
-unfolding syntax.out-Tree carrier.out tokens.shape_of trees.span_of
+unfolding syntax.out-Node carrier.out tokens.shape_of trees.span_of trees.span_of_node
 method = body-with (Declared Top true _ METHOD [] refl (Method Top _ METHOD []
     (Def None None _ _ false (codes "f") (from_to 4 5) [] _ _ _ _ _ [] refl (Other _) (Plain _ (codes "f") _ refl) (EmptyParens _ _ _ _ refl (Closed _) refl) tt tt
     (Unrescued true _ None _ _ _
@@ -127,7 +127,7 @@ name-alone : (t : Token) (w : List ℕ) (xs : List Token) → IsIdentifier t w �
 name-alone t w xs is = Simply Inside true (tree.Name w t.span) (tree.Name w t.span) (t ∷ xs) xs xs (name-of false true t w xs is) (Unmodified true _ xs)
 
 guarded : Derives GUARDED GUARDED_TREE
-unfolding syntax.out-Tree carrier.out tokens.shape_of trees.span_of
+unfolding syntax.out-Node carrier.out tokens.shape_of trees.span_of trees.span_of_node
 guarded = simply Top (simple-of true
     (Guards true _ _ _ _ [] refl
     (Rescued true _ _ [] None None _ _ _ _ _ (Statements Inside true _ [] _ _ _ _ _ (Wide _ _ _ refl (Closed _)) (name-alone _ (codes "x") _ refl) (NoMore Inside true _) (Closed _))

@@ -1,7 +1,7 @@
 -- Where the errors of a tree stand that stands at tokens: each begins where a token begins, and ends where a token ends.
 use Rattle.std.proofs.Common.{Bool, true, false, if◌then◌else◌, List, [], ◌∷◌, Option, Some, None, IfSome, option_map}
 use Rattle.srb_terms.specs.declared.span.Span.{Span}
-use Rattle.rb_tree.specs.Trees.{span_at, span_of}
+use Rattle.rb_tree.specs.Trees.{span_at, span_of, span_of_node}
 use Rattle.rb_tree.specs.declared.token.Token.{Token}
 use Rattle.rb_tree.specs.declared.syntax.Argument.{Argument}
 use Rattle.rb_tree.specs.declared.syntax.Argument.TheVariants as argument
@@ -9,8 +9,9 @@ use Rattle.rb_tree.specs.declared.syntax.Piece.{Piece}
 use Rattle.rb_tree.specs.declared.syntax.Piece.TheVariants as piece
 use Rattle.rb_tree.specs.declared.syntax.Suffix.{Suffix}
 use Rattle.rb_tree.specs.declared.syntax.Suffix.TheVariants as suffix
-use Rattle.rb_tree.specs.declared.syntax.Tree.{Tree, out-Tree}
-use Rattle.rb_tree.specs.declared.syntax.Tree.TheOpen.{Tree-F}
+use Rattle.rb_tree.specs.declared.syntax.Tree.{Tree}
+use Rattle.rb_tree.specs.declared.syntax.Node.{Node, out-Node}
+use Rattle.rb_tree.specs.declared.syntax.Node.TheOpen.{Node-F}
 use Rattle.rb_grammar.specs.Places.{Each, IsPlaced, DoesArgumentStand, DoesSuffixStand, DoesNodeStand}
 use Rattle.srb_check.specs.declared.built.Class.{Class}
 use Rattle.srb_check.specs.declared.built.Class.TheVariants as class
@@ -28,7 +29,7 @@ IsExpressionAt P Plain = Unit {0}
 IsExpressionAt P (Let literal asserted) = P literal.span
 IsExpressionAt P (Reveal literal span) = P span
 
-module _ (tokens : List Token) (Stands : Tree → Type 0) (node : (t : Tree) → Stands t → DoesNodeStand tokens Stands (out-Tree t)) where
+module _ (tokens : List Token) (Stands : Tree → Type 0) (node : (t : Tree) → Stands t → DoesNodeStand tokens Stands (out-Node t.node)) where
   abbrev IsLiteralPlaced : Literal → Type 0
   IsLiteralPlaced literal = IsPlaced tokens literal.span
 
@@ -48,17 +49,17 @@ module _ (tokens : List Token) (Stands : Tree → Type 0) (node : (t : Tree) →
   string-placed span (piece.Words words own ∷ []) h = tested span class.Text (list_all is_string_byte words) h
   string-placed span _ h = tt
 
-  literal-node : (n : Tree-F Tree) → DoesNodeStand tokens Stands n → IfSome (literal_at (span_at n) (literal_class n)) IsLiteralPlaced
-  literal-node (Tree-F.Nil span) h = h
-  literal-node (Tree-F.True span) h = h
-  literal-node (Tree-F.False span) h = h
-  literal-node (Tree-F.Whole None words span) h = tested span class.Integer (is_number words) h
-  literal-node (Tree-F.Text pieces span) h = string-placed span pieces h.0
+  literal-node : (n : Node-F Node Tree) → DoesNodeStand tokens Stands n → IfSome (literal_at (span_at n) (literal_class n)) IsLiteralPlaced
+  literal-node (Node-F.Nil span) h = h
+  literal-node (Node-F.True span) h = h
+  literal-node (Node-F.False span) h = h
+  literal-node (Node-F.Whole None words span) h = tested span class.Integer (is_number words) h
+  literal-node (Node-F.Text pieces span) h = string-placed span pieces h.0
   literal-node _ h = tt
 
   literal-placed : (t : Tree) → Stands t → IfSome (literal_of t) IsLiteralPlaced
-  unfolding literal_of class_of_literal span_of
-  literal-placed t h = literal-node (out-Tree t) (node t h)
+  unfolding literal_of class_of_literal span_of span_of_node
+  literal-placed t h = literal-node (out-Node t.node) (node t h)
 
   -- ---- assertions and questions
 
@@ -87,23 +88,23 @@ module _ (tokens : List Token) (Stands : Tree → Type 0) (node : (t : Tree) →
   plain-placed None = tt
   plain-placed (Some literal) = tt
 
-  expression-node : (t : Tree) (n : Tree-F Tree) → DoesNodeStand tokens Stands n → IfSome (expression_at t n) IsExpressionPlaced
-  expression-node t (Tree-F.Post receiver suffixes span) h = by_receiver (is_t receiver)
+  expression-node : (t : Tree) (n : Node-F Node Tree) → DoesNodeStand tokens Stands n → IfSome (expression_at t n) IsExpressionPlaced
+  expression-node t (Node-F.Post receiver suffixes span) h = by_receiver (is_t receiver)
     where
       by_receiver : (named : Bool) → IfSome (if named then suffixed suffixes span else None) IsExpressionPlaced
       by_receiver true = suffixed-placed suffixes span h.0 h.2
       by_receiver false = tt
-  expression-node t (Tree-F.Command callee arguments None span) h = called-placed (callee_form callee) arguments span h.0 h.2
+  expression-node t (Node-F.Command callee arguments None span) h = called-placed (callee_form callee) arguments span h.0 h.2
   expression-node t _ h = plain-placed (literal_of t)
 
   expression-placed : (t : Tree) → Stands t → IfSome (expression_of t) IsExpressionPlaced
   unfolding expression_of
-  expression-placed t h = expression-node t (out-Tree t) (node t h)
+  expression-placed t h = expression-node t (out-Node t.node) (node t h)
 
   -- ---- programs
 
-  statement-node : (t : Tree) (n : Tree-F Tree) → Stands t → DoesNodeStand tokens Stands n → IfSome (statement_at t n) IsExpressionPlaced
-  statement-node t (Tree-F.Assign target value span) s h = by_target (is_variable target)
+  statement-node : (t : Tree) (n : Node-F Node Tree) → Stands t → DoesNodeStand tokens Stands n → IfSome (statement_at t n) IsExpressionPlaced
+  statement-node t (Node-F.Assign target value span) s h = by_target (is_variable target)
     where
       by_target : (named : Bool) → IfSome (if named then expression_of value else None) IsExpressionPlaced
       by_target true = expression-placed value h.2
@@ -112,7 +113,7 @@ module _ (tokens : List Token) (Stands : Tree → Type 0) (node : (t : Tree) →
 
   statement-placed : (t : Tree) → Stands t → IfSome (statement_of t) IsExpressionPlaced
   unfolding statement_of
-  statement-placed t h = statement-node t (out-Tree t) h (node t h)
+  statement-placed t h = statement-node t (out-Node t.node) h (node t h)
 
   first-placed : (first : Option Expression) (rest : Option (List Expression)) → IfSome first IsExpressionPlaced → IfSome rest (Each IsExpressionPlaced) → IfSome (with_first first rest) (Each IsExpressionPlaced)
   first-placed (Some first) (Some rest) h more = (h, more)
@@ -122,11 +123,11 @@ module _ (tokens : List Token) (Stands : Tree → Type 0) (node : (t : Tree) →
   statements-placed [] each = tt
   statements-placed (s ∷ ss) each = first-placed (statement_of s) (built_statements ss) (statement-placed s each.0) (statements-placed ss each.1)
 
-  built-node : (n : Tree-F Tree) → DoesNodeStand tokens Stands n → IfSome (built_at n) (Each IsExpressionPlaced)
-  built-node (Tree-F.Body [] span) h = tt
-  built-node (Tree-F.Body (s ∷ ss) span) h = statements-placed (s ∷ ss) h.1
+  built-node : (n : Node-F Node Tree) → DoesNodeStand tokens Stands n → IfSome (built_at n) (Each IsExpressionPlaced)
+  built-node (Node-F.Body [] span) h = tt
+  built-node (Node-F.Body (s ∷ ss) span) h = statements-placed (s ∷ ss) h.1
   built-node _ h = tt
 
   pub built-placed : (t : Tree) → Stands t → IfSome (built t) (Each (IsExpressionAt (IsPlaced tokens)))
   unfolding built
-  built-placed t h = built-node (out-Tree t) (node t h)
+  built-placed t h = built-node (out-Node t.node) (node t h)
