@@ -1,0 +1,11 @@
+pub mod Circles
+pub mod Conflicts
+pub mod FullNames
+pub mod Kinds
+pub mod Lin
+pub mod Links
+pub mod Lookup
+pub mod Parents
+pub mod Resolves
+pub mod Values
+pub mod Standing

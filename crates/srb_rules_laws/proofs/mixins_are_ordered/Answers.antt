@@ -1,0 +1,20 @@
+use Rattle.std.proofs.Common.{refl}
+use Rattle.srb_rules.specs.Conflicts.{conflict_of, conflicts_of}
+use Rattle.srb_rules.specs.Kinds.{kind_of}
+use Rattle.srb_rules.specs.Lin.{lin_of}
+use Rattle.srb_rules.specs.Parents.{deciding, extended_of, inherited, links, mixed_in, superclass_of}
+use Rattle.srb_rules.specs.Resolves.{lin_in, resolves}
+use Rattle.srb_rules.specs.Values.{value_type}
+use Rattle.srb_rules_laws.proofs.mixins_are_ordered.Goals as goal
+
+pub returns-clause-mixed : goal.returns-clause-mixed
+unfolding conflict_of conflicts_of kind_of lin_of deciding extended_of inherited links mixed_in superclass_of lin_in resolves value_type
+returns-clause-mixed c = refl
+
+pub returns-clause-wrong : goal.returns-clause-wrong
+unfolding conflict_of conflicts_of kind_of lin_of deciding extended_of inherited links mixed_in superclass_of lin_in resolves value_type
+returns-clause-wrong c = (refl, refl, refl, refl)
+
+pub returns-clause-circle : goal.returns-clause-circle
+unfolding conflict_of conflicts_of kind_of lin_of deciding extended_of inherited links mixed_in superclass_of lin_in resolves value_type
+returns-clause-circle c = refl
