@@ -1,0 +1,10 @@
+pub mod CircleProofs
+pub mod FirstProofs
+pub mod LawProofs
+pub mod LinProofs
+pub mod LinkProofs
+pub mod PlaceProofs
+pub mod RowProofs
+pub mod SearchProofs
+pub mod SettleProofs
+pub mod WayProofs
