@@ -1,0 +1,6 @@
+mod Circular
+mod Colons
+mod CountedLinks
+mod Known
+mod Passes
+mod Stand

@@ -1,0 +1,9 @@
+use Rattle.std.proofs.Common.{◌≡◌, ℕ, List, bytes_eq, drop}
+use Rattle.std.specs.List.{fold}
+use Rattle.indexmap.specs.IndexMap.{get}
+use Rattle.srb_table.specs.Steps.{entry_after, lin_entry}
+use Rattle.srb_table.proofs.lins.add_lins.Given as goal
+
+abbrev pub invariant-files : goal.invariant-files
+invariant-files l =
+    (c : List ℕ) → fold (fold (entry_after (lin_entry l.w (get bytes_eq l.lins)) c)) (get bytes_eq l.table c) (drop l.file-index l.files) ≡ fold (fold (entry_after (lin_entry l.w (get bytes_eq l.lins)) c)) (get bytes_eq l.fn.table c) l.files
