@@ -1,0 +1,5 @@
+use Rattle.std.proofs.Common.{◌≡◌, take, length}
+use Rattle.srb_summary.proofs.equal.same_shapes.Given as goal
+
+abbrev pub invariant-shapes : goal.invariant-shapes
+invariant-shapes l = record { as_long : length l.a ≡ length l.b; so_far : take l.index l.a ≡ take l.index l.b }

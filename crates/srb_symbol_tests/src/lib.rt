@@ -1,0 +1,5 @@
+//! What the symbol crates make of short programs, by way of the lexer and the parser: tests alone, above the crates that they try.
+#![tactic(auto)]
+
+#[cfg(test)]
+mod facts;
