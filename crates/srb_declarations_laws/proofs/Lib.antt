@@ -1,0 +1,3 @@
+pub mod Mixins
+pub mod Places
+pub mod Programs
