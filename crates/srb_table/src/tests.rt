@@ -117,98 +117,137 @@ fn is_circular(alloc: Global, world: &World, c: &str, to: &str) -> Result<bool, 
     Ok(world.is_circular(&name(alloc, c)?, &name(alloc, to)?))
 }
 
-// class P includes B; class C < P includes A and then B, and extends A and then B; class D < C in module A, which has a constant X
-#[test]
-fn mixins(rt: HostRuntime) -> Result<(), NoMemory> {
-    let alloc = rt.alloc();
+// class P includes B; class D < C in module A, which has a constant X
+fn first_file(alloc: Global) -> Result<Items<Fact>, NoMemory> {
+    let mut facts = Items::new(alloc);
+    add_scope(alloc, &mut facts, "A", Kind::Module)?;
+    add_value(alloc, &mut facts, "A::X", &["A"], "String")?;
+    add_scope(alloc, &mut facts, "A::D", Kind::Class)?;
+    add_parent(alloc, &mut facts, "A::D", &["A"], &["C"], How::Super)?;
+    add_scope(alloc, &mut facts, "B", Kind::Module)?;
+    add_scope(alloc, &mut facts, "P", Kind::Class)?;
+    add_parent(alloc, &mut facts, "P", &["P"], &["B"], How::Include)?;
+    Ok(facts)
+}
+
+// class C < P includes A and then B, and extends A, P, which is no module, and B
+fn second_file(alloc: Global) -> Result<Items<Fact>, NoMemory> {
+    let mut facts = Items::new(alloc);
+    add_scope(alloc, &mut facts, "C", Kind::Class)?;
+    add_parent(alloc, &mut facts, "C", &[], &["P"], How::Super)?;
+    add_parent(alloc, &mut facts, "C", &["C"], &["A"], How::Include)?;
+    add_parent(alloc, &mut facts, "C", &["C"], &["B"], How::Include)?;
+    add_parent(alloc, &mut facts, "C", &["C"], &["A"], How::Extend)?;
+    add_parent(alloc, &mut facts, "C", &["C"], &["P"], How::Extend)?;
+    add_parent(alloc, &mut facts, "C", &["C"], &["B"], How::Extend)?;
+    Ok(facts)
+}
+
+fn two_files(alloc: Global) -> Result<World, NoMemory> {
     let first = base(alloc)?;
-    let mut one = Items::new(alloc);
-    add_scope(alloc, &mut one, "A", Kind::Module)?;
-    add_value(alloc, &mut one, "A::X", &["A"], "String")?;
-    add_scope(alloc, &mut one, "A::D", Kind::Class)?;
-    add_parent(alloc, &mut one, "A::D", &["A"], &["C"], How::Super)?;
-    add_scope(alloc, &mut one, "B", Kind::Module)?;
-    add_scope(alloc, &mut one, "P", Kind::Class)?;
-    add_parent(alloc, &mut one, "P", &["P"], &["B"], How::Include)?;
-    let mut two = Items::new(alloc);
-    add_scope(alloc, &mut two, "C", Kind::Class)?;
-    add_parent(alloc, &mut two, "C", &[], &["P"], How::Super)?;
-    add_parent(alloc, &mut two, "C", &["C"], &["A"], How::Include)?;
-    add_parent(alloc, &mut two, "C", &["C"], &["B"], How::Include)?;
-    add_parent(alloc, &mut two, "C", &["C"], &["A"], How::Extend)?;
-    add_parent(alloc, &mut two, "C", &["C"], &["P"], How::Extend)?;
-    add_parent(alloc, &mut two, "C", &["C"], &["B"], How::Extend)?;
     let mut files = Items::new(alloc);
-    files.push(one)?;
-    files.push(two)?;
-    let world = world_of(alloc, first.as_slice(), files.as_slice())?;
-    assert_eq!(rt;
-        lin(alloc, &world, "C")?.as_str(),
-        "C A P B Object Kernel BasicObject "
-    );
-    assert_eq!(rt;
-        lin(alloc, &world, "A::D")?.as_str(),
-        "A::D C A P B Object Kernel BasicObject "
-    );
-    assert_eq!(rt; lin(alloc, &world, "A")?.as_str(), "A ");
-    assert_eq!(rt; lin(alloc, &world, "A::X")?.as_str(), "-");
-    assert_eq!(rt; superclass(alloc, &world, "A::D")?.as_str(), "C");
-    assert_eq!(rt; superclass(alloc, &world, "P")?.as_str(), "Object");
-    assert_eq!(rt; superclass(alloc, &world, "BasicObject")?.as_str(), "-");
-    assert_eq!(rt; superclass(alloc, &world, "A")?.as_str(), "-");
-    assert_eq!(rt;
-        shown(alloc, world.extended(&name(alloc, "C")?))?.as_str(),
-        "A B "
-    );
-    assert_eq!(rt;
-        shown(alloc, world.extended(&name(alloc, "P")?))?.as_str(),
-        ""
-    );
-    match world.within(Some(&name(alloc, "A")?), &name(alloc, "X")?) {
-        None => assert!(rt; false),
-        Some(found) => assert_eq!(rt; found.as_str(), "A::X"),
+    files.push(first_file(alloc)?)?;
+    files.push(second_file(alloc)?)?;
+    world_of(alloc, first.as_slice(), files.as_slice())
+}
+
+fn extended(alloc: Global, world: &World, text: &str) -> Result<String, NoMemory> {
+    let c = name(alloc, text)?;
+    shown(alloc, world.extended(&c))
+}
+
+// The constant X of A, and the class of its type.
+fn constant(alloc: Global, world: &World) -> Result<bool, NoMemory> {
+    let (scope, last) = (name(alloc, "A")?, name(alloc, "X")?);
+    match world.within(Some(&scope), &last) {
+        None => Ok(false),
+        Some(found) => match world.value(found) {
+            Some(Ty::Class(class)) => Ok(found.as_str() == "A::X" && class.as_str() == "String"),
+            _ => Ok(false),
+        },
     }
-    match world.value(&name(alloc, "A::X")?) {
-        Some(Ty::Class(class)) => assert_eq!(rt; class.as_str(), "String"),
-        _ => assert!(rt; false),
-    }
+}
+
+#[test]
+fn linearizations(rt: HostRuntime) -> Result<(), NoMemory> {
+    let alloc = rt.alloc();
+    let world = two_files(alloc)?;
+    let c = lin(alloc, &world, "C")?;
+    assert!(rt; c.as_str() == "C A P B Object Kernel BasicObject ");
+    let d = lin(alloc, &world, "A::D")?;
+    assert!(rt; d.as_str() == "A::D C A P B Object Kernel BasicObject ");
+    let x = lin(alloc, &world, "A::X")?;
+    assert!(rt; x.as_str() == "-");
     Ok(())
 }
 
-// `class A < B` and `class B < A`; `class X < String` and `class X < Integer`; `class BasicObject < X`
 #[test]
-fn circles_and_two_superclasses(rt: HostRuntime) -> Result<(), NoMemory> {
+fn superclasses_and_extended_modules(rt: HostRuntime) -> Result<(), NoMemory> {
     let alloc = rt.alloc();
+    let world = two_files(alloc)?;
+    let d = superclass(alloc, &world, "A::D")?;
+    assert!(rt; d.as_str() == "C");
+    let p = superclass(alloc, &world, "P")?;
+    assert!(rt; p.as_str() == "Object");
+    let a = superclass(alloc, &world, "A")?;
+    assert!(rt; a.as_str() == "-");
+    let c = extended(alloc, &world, "C")?;
+    assert!(rt; c.as_str() == "A B ");
+    assert!(rt; constant(alloc, &world)?);
+    Ok(())
+}
+
+// `class A < B`, `class X < String`
+fn circle_begun(alloc: Global) -> Result<Items<Fact>, NoMemory> {
+    let mut facts = Items::new(alloc);
+    add_scope(alloc, &mut facts, "A", Kind::Class)?;
+    add_parent(alloc, &mut facts, "A", &[], &["B"], How::Super)?;
+    add_scope(alloc, &mut facts, "X", Kind::Class)?;
+    add_parent(alloc, &mut facts, "X", &[], &["String"], How::Super)?;
+    Ok(facts)
+}
+
+// `class B < A`, `class BasicObject < X`, `class X < Integer`
+fn circle_closed(alloc: Global) -> Result<Items<Fact>, NoMemory> {
+    let mut facts = Items::new(alloc);
+    add_scope(alloc, &mut facts, "B", Kind::Class)?;
+    add_parent(alloc, &mut facts, "B", &[], &["A"], How::Super)?;
+    add_parent(alloc, &mut facts, "BasicObject", &[], &["X"], How::Super)?;
+    add_scope(alloc, &mut facts, "X", Kind::Class)?;
+    add_parent(alloc, &mut facts, "X", &[], &["Integer"], How::Super)?;
+    Ok(facts)
+}
+
+fn circle(alloc: Global) -> Result<World, NoMemory> {
     let first = base(alloc)?;
-    let mut one = Items::new(alloc);
-    add_scope(alloc, &mut one, "A", Kind::Class)?;
-    add_parent(alloc, &mut one, "A", &[], &["B"], How::Super)?;
-    add_scope(alloc, &mut one, "X", Kind::Class)?;
-    add_parent(alloc, &mut one, "X", &[], &["String"], How::Super)?;
-    let mut two = Items::new(alloc);
-    add_scope(alloc, &mut two, "B", Kind::Class)?;
-    add_parent(alloc, &mut two, "B", &[], &["A"], How::Super)?;
-    add_parent(alloc, &mut two, "BasicObject", &[], &["X"], How::Super)?;
-    add_scope(alloc, &mut two, "X", Kind::Class)?;
-    add_parent(alloc, &mut two, "X", &[], &["Integer"], How::Super)?;
     let mut files = Items::new(alloc);
-    files.push(one)?;
-    files.push(two)?;
-    let world = world_of(alloc, first.as_slice(), files.as_slice())?;
-    assert_eq!(rt; lin(alloc, &world, "A")?.as_str(), "A ");
-    assert_eq!(rt; superclass(alloc, &world, "A")?.as_str(), "B");
+    files.push(circle_begun(alloc)?)?;
+    files.push(circle_closed(alloc)?)?;
+    world_of(alloc, first.as_slice(), files.as_slice())
+}
+
+#[test]
+fn circles(rt: HostRuntime) -> Result<(), NoMemory> {
+    let alloc = rt.alloc();
+    let world = circle(alloc)?;
     assert!(rt; is_circular(alloc, &world, "A", "B")?);
     assert!(rt; is_circular(alloc, &world, "B", "A")?);
     assert!(rt; !is_circular(alloc, &world, "A", "Object")?);
-    assert!(rt; !is_circular(alloc, &world, "B", "Object")?);
-    assert!(rt; !is_circular(alloc, &world, "A", "A")?);
     assert!(rt; !is_circular(alloc, &world, "X", "String")?);
     assert!(rt; is_circular(alloc, &world, "BasicObject", "X")?);
     assert!(rt; !is_circular(alloc, &world, "BasicObject", "A")?);
-    assert_eq!(rt; superclass(alloc, &world, "X")?.as_str(), "String");
-    assert_eq!(rt;
-        lin(alloc, &world, "X")?.as_str(),
-        "X String Object Kernel BasicObject "
-    );
+    Ok(())
+}
+
+#[test]
+fn the_first_superclass_decides(rt: HostRuntime) -> Result<(), NoMemory> {
+    let alloc = rt.alloc();
+    let world = circle(alloc)?;
+    let a = lin(alloc, &world, "A")?;
+    assert!(rt; a.as_str() == "A ");
+    let a = superclass(alloc, &world, "A")?;
+    assert!(rt; a.as_str() == "B");
+    let x = lin(alloc, &world, "X")?;
+    assert!(rt; x.as_str() == "X String Object Kernel BasicObject ");
     Ok(())
 }
