@@ -1,17 +1,14 @@
 //! The summary of a file: the list of the facts that it declares, without places. A file whose summary stays when it is edited changes
 //! nothing in other files.
 //!
-//! `Summary` is seen as the list of its facts, and its copies share them. `same` tells whether two summaries are equal. `FileRec` is what
-//! is kept of a file.
+//! `Summary` is seen as the list of its facts, and its copies share them. `same` tells whether two summaries are equal.
 #![tactic(auto)]
 
 mod copies;
 mod equal;
-mod file;
 mod list;
 mod make;
 
 pub use equal::same;
-pub use file::FileRec;
 pub use list::Summary;
 pub use make::summary;

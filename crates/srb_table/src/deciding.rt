@@ -6,17 +6,18 @@ ghost use Rattle.srb_table.specs.Steps.{deciding_after, inherited_at};
 
 use crate::references::inherited;
 use indexmap::IndexMap;
-use srb_terms::{Fact, How, Items, Name, Names, NoMemory, Path, World};
+use srb_summary::Summary;
+use srb_terms::{Fact, How, Name, Names, NoMemory, Path, World};
 
 /// The superclasses that are written.
 pub type Deciding = IndexMap<Name, Name>;
 
 /// Adds the superclasses that are written, the first one of each class, by the facts of some files.
-pub fn add_deciding(w: &World, table: &mut Deciding, files: &[Items<Fact>]) -> Result<(), NoMemory>
+pub fn add_deciding(w: &World, table: &mut Deciding, files: &[Summary]) -> Result<(), NoMemory>
     ensures { OnOk result ((c : List ℕ) → get bytes_eq table.new c ≡ fold (fold (deciding_after (inherited_at w.now) c)) (get bytes_eq table.old c) files.now) }
 {
     'files: for file in files {
-        add_deciding_of_file(w, table, file.as_slice())?;
+        add_deciding_of_file(w, table, file.facts())?;
     }
     Ok(())
 }

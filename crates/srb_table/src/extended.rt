@@ -7,7 +7,8 @@ ghost use Rattle.srb_table.specs.Steps.{entry_after, extended_entry};
 use crate::extends::Extends;
 use crate::lins::put;
 use indexmap::IndexMap;
-use srb_terms::{Fact, Items, Kind, Name, Names, NoMemory, World};
+use srb_summary::Summary;
+use srb_terms::{Fact, Kind, Name, Names, NoMemory, World};
 use std::alloc::Global;
 
 /// Adds the modules that each class and module extends that is declared by the facts of some files.
@@ -16,12 +17,12 @@ pub fn add_extended(
     w: &World,
     extends: &Extends,
     table: &mut IndexMap<Name, Names>,
-    files: &[Items<Fact>],
+    files: &[Summary],
 ) -> Result<(), NoMemory>
     ensures { OnOk result ((c : List ℕ) → get bytes_eq table.new c ≡ fold (fold (entry_after (extended_entry w.now (get bytes_eq extends.now)) c)) (get bytes_eq table.old c) files.now) }
 {
     'files: for file in files {
-        add_extended_of_file(alloc, w, extends, table, file.as_slice())?;
+        add_extended_of_file(alloc, w, extends, table, file.facts())?;
     }
     Ok(())
 }

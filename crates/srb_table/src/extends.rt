@@ -6,6 +6,7 @@ ghost use Rattle.srb_table.specs.Steps.{extended_after, listed, mixed_at};
 
 use crate::references::mixed;
 use indexmap::IndexMap;
+use srb_summary::Summary;
 use srb_terms::{Fact, How, Items, Name, Names, NoMemory, Path, World};
 use std::alloc::Global;
 
@@ -17,12 +18,12 @@ pub fn add_extends(
     alloc: Global,
     w: &World,
     table: &mut Extends,
-    files: &[Items<Fact>],
+    files: &[Summary],
 ) -> Result<(), NoMemory>
     ensures { OnOk result ((c : List ℕ) → get bytes_eq table.new c ≡ fold (fold (extended_after (mixed_at w.now) c)) (get bytes_eq table.old c) files.now) }
 {
     'files: for file in files {
-        add_extends_of_file(alloc, w, table, file.as_slice())?;
+        add_extends_of_file(alloc, w, table, file.facts())?;
     }
     Ok(())
 }

@@ -6,18 +6,19 @@ ghost use Rattle.indexmap.specs.IndexMap.{get};
 ghost use Rattle.srb_terms.specs.Worlds.{has_colon, inner_at, joined, value_of};
 
 use indexmap::IndexMap;
-use srb_terms::{Fact, Items, Kind, Name, NoMemory};
+use srb_summary::Summary;
+use srb_terms::{Fact, Kind, Name, NoMemory};
 use std::alloc::Global;
 
 /// Full names by the scope's name and the last part.
 pub type Inner = IndexMap<Name, IndexMap<Name, Name>>;
 
 /// Adds the names that the facts of some files declare.
-pub fn add_inner(alloc: Global, table: &mut Inner, files: &[Items<Fact>]) -> Result<(), NoMemory>
+pub fn add_inner(alloc: Global, table: &mut Inner, files: &[Summary]) -> Result<(), NoMemory>
     ensures { OnOk result ((scope last : List ℕ) → has_colon last ≡ false → inner_at scope last table.new.entries ≡ fold (fold (inner_after (joined scope last))) (inner_at scope last table.old.entries) files.now) }
 {
     'files: for file in files {
-        add_inner_of_file(alloc, table, file.as_slice())?;
+        add_inner_of_file(alloc, table, file.facts())?;
     }
     Ok(())
 }

@@ -6,17 +6,18 @@ ghost use Rattle.indexmap.specs.IndexMap.{get};
 ghost use Rattle.srb_table.specs.Steps.{kind_after, with_body};
 
 use indexmap::IndexMap;
-use srb_terms::{Fact, Items, Kind, Name, NoMemory};
+use srb_summary::Summary;
+use srb_terms::{Fact, Kind, Name, NoMemory};
 
 /// The kinds of names.
 pub type Kinds = IndexMap<Name, Kind>;
 
 /// Adds the names that the facts of some files declare.
-pub fn add_kinds(kinds: &mut Kinds, files: &[Items<Fact>]) -> Result<(), NoMemory>
+pub fn add_kinds(kinds: &mut Kinds, files: &[Summary]) -> Result<(), NoMemory>
     ensures { OnOk result ((c : List ℕ) → get bytes_eq kinds.new c ≡ fold (fold (kind_after c)) (get bytes_eq kinds.old c) files.now) }
 {
     'files: for file in files {
-        add_kinds_of_file(kinds, file.as_slice())?;
+        add_kinds_of_file(kinds, file.facts())?;
     }
     Ok(())
 }

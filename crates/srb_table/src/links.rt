@@ -8,6 +8,7 @@ ghost use Rattle.srb_table.specs.Steps.{appended, links_after, mixed_at};
 use crate::references::mixed;
 use indexmap::IndexMap;
 use srb_rules::Link;
+use srb_summary::Summary;
 use srb_terms::{Fact, How, Items, Name, Names, NoMemory, Path, World};
 
 /// Adds the links that are given by the facts of some files.
@@ -15,12 +16,12 @@ pub fn add_links(
     w: &World,
     superclasses: &IndexMap<Name, Name>,
     table: &mut Items<Link>,
-    files: &[Items<Fact>],
+    files: &[Summary],
 ) -> Result<(), NoMemory>
     ensures { OnOk result (table.new ≡ fold (fold (links_after (get bytes_eq superclasses.now) (mixed_at w.now))) table.old files.now) }
 {
     'files: for file in files {
-        add_links_of_file(w, superclasses, table, file.as_slice())?;
+        add_links_of_file(w, superclasses, table, file.facts())?;
     }
     Ok(())
 }

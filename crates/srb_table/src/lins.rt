@@ -5,7 +5,8 @@ ghost use Rattle.indexmap.specs.IndexMap.{get};
 ghost use Rattle.srb_table.specs.Steps.{entry_after, lin_entry};
 
 use indexmap::IndexMap;
-use srb_terms::{Fact, Items, Kind, Name, Names, NoMemory, World};
+use srb_summary::Summary;
+use srb_terms::{Fact, Kind, Name, Names, NoMemory, World};
 use std::alloc::Global;
 
 /// Adds the linearization of each class and module that is declared by the facts of some files.
@@ -14,12 +15,12 @@ pub fn add_lins(
     w: &World,
     lins: &IndexMap<Name, Names>,
     table: &mut IndexMap<Name, Names>,
-    files: &[Items<Fact>],
+    files: &[Summary],
 ) -> Result<(), NoMemory>
     ensures { OnOk result ((c : List ℕ) → get bytes_eq table.new c ≡ fold (fold (entry_after (lin_entry w.now (get bytes_eq lins.now)) c)) (get bytes_eq table.old c) files.now) }
 {
     'files: for file in files {
-        add_lins_of_file(alloc, w, lins, table, file.as_slice())?;
+        add_lins_of_file(alloc, w, lins, table, file.facts())?;
     }
     Ok(())
 }

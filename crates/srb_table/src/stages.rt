@@ -22,11 +22,12 @@ use crate::superclasses::{add_superclasses, add_superclasses_of_file};
 use crate::values::{add_values, add_values_of_file};
 use indexmap::IndexMap;
 use srb_rules::Link;
+use srb_summary::Summary;
 use srb_terms::{Fact, Items, Name, Names, NoMemory, Ty, World};
 use std::alloc::Global;
 
 /// The kinds of all names.
-pub fn all_kinds(alloc: Global, first: &[Fact], files: &[Items<Fact>]) -> Result<Kinds, NoMemory>
+pub fn all_kinds(alloc: Global, first: &[Fact], files: &[Summary]) -> Result<Kinds, NoMemory>
     ensures { IfOk result (λ t. (c : List ℕ) → get bytes_eq t c ≡ kind_of (facts_of first.now files.now) c) }
 {
     let mut table = IndexMap::new(alloc);
@@ -36,7 +37,7 @@ pub fn all_kinds(alloc: Global, first: &[Fact], files: &[Items<Fact>]) -> Result
 }
 
 /// The full names by scope and last part.
-pub fn all_inner(alloc: Global, first: &[Fact], files: &[Items<Fact>]) -> Result<Inner, NoMemory>
+pub fn all_inner(alloc: Global, first: &[Fact], files: &[Summary]) -> Result<Inner, NoMemory>
     ensures { IfOk result (λ t. (scope last : List ℕ) → has_colon last ≡ false → inner_at scope last t.entries ≡ (if is_some (kind_of (facts_of first.now files.now) (joined scope last)) then Some (joined scope last) else None)) }
 {
     let mut table = IndexMap::new(alloc);
@@ -50,7 +51,7 @@ pub fn all_deciding(
     alloc: Global,
     w: &World,
     first: &[Fact],
-    files: &[Items<Fact>],
+    files: &[Summary],
 ) -> Result<Deciding, NoMemory>
     ensures { IfOk result (λ t. KnowsNames w.now (facts_of first.now files.now) → (c : List ℕ) → get bytes_eq t c ≡ parents.deciding (facts_of first.now files.now) c) }
 {
@@ -66,7 +67,7 @@ pub fn all_superclasses(
     w: &World,
     deciding: &Deciding,
     first: &[Fact],
-    files: &[Items<Fact>],
+    files: &[Summary],
 ) -> Result<IndexMap<Name, Name>, NoMemory>
     ensures { IfOk result (λ t. KnowsNames w.now (facts_of first.now files.now) → ((c : List ℕ) → get bytes_eq deciding.now c ≡ parents.deciding (facts_of first.now files.now) c) → (c : List ℕ) → get bytes_eq t c ≡ parents.superclass_of (facts_of first.now files.now) c) }
 {
@@ -83,7 +84,7 @@ pub fn all_links(
     w: &World,
     superclasses: &IndexMap<Name, Name>,
     first: &[Fact],
-    files: &[Items<Fact>],
+    files: &[Summary],
 ) -> Result<Items<Link>, NoMemory>
     ensures { IfOk result (λ t. KnowsNames w.now (facts_of first.now files.now) → ((c : List ℕ) → get bytes_eq superclasses.now c ≡ parents.superclass_of (facts_of first.now files.now) c) → t ≡ parents.links (facts_of first.now files.now)) }
 {
@@ -111,7 +112,7 @@ pub fn all_extends(
     alloc: Global,
     w: &World,
     first: &[Fact],
-    files: &[Items<Fact>],
+    files: &[Summary],
 ) -> Result<Extends, NoMemory>
     ensures { IfOk result (λ t. KnowsNames w.now (facts_of first.now files.now) → (c : List ℕ) → unwrap_or (get bytes_eq t c) [] ≡ filter_map (parents.extended_in (parents.mixed_in (facts_of first.now files.now)) c) (facts_of first.now files.now)) }
 {
@@ -127,7 +128,7 @@ pub fn all_extended(
     w: &World,
     extends: &Extends,
     first: &[Fact],
-    files: &[Items<Fact>],
+    files: &[Summary],
 ) -> Result<IndexMap<Name, Names>, NoMemory>
     ensures { IfOk result (λ t. KnowsNames w.now (facts_of first.now files.now) → ((c : List ℕ) → unwrap_or (get bytes_eq extends.now c) [] ≡ filter_map (parents.extended_in (parents.mixed_in (facts_of first.now files.now)) c) (facts_of first.now files.now)) → (c : List ℕ) → get bytes_eq t c ≡ parents.extended_of (facts_of first.now files.now) c) }
 {
@@ -142,7 +143,7 @@ pub fn all_values(
     alloc: Global,
     w: &World,
     first: &[Fact],
-    files: &[Items<Fact>],
+    files: &[Summary],
 ) -> Result<IndexMap<Name, Ty>, NoMemory>
     ensures { IfOk result (λ t. KnowsNames w.now (facts_of first.now files.now) → (c : List ℕ) → get bytes_eq t c ≡ value_type (facts_of first.now files.now) c) }
 {

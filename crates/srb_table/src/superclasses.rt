@@ -7,7 +7,8 @@ ghost use Rattle.srb_table.specs.Steps.{entry_after, super_entry};
 
 use crate::deciding::{Deciding, put};
 use indexmap::IndexMap;
-use srb_terms::{Fact, Items, Kind, Name, NoMemory, World};
+use srb_summary::Summary;
+use srb_terms::{Fact, Kind, Name, NoMemory, World};
 
 /// Adds the superclass of each class that is declared by the facts of some files.
 pub fn add_superclasses(
@@ -15,13 +16,13 @@ pub fn add_superclasses(
     deciding: &Deciding,
     object: &Name,
     table: &mut IndexMap<Name, Name>,
-    files: &[Items<Fact>],
+    files: &[Summary],
 ) -> Result<(), NoMemory>
     requires { object.now ≡ OBJECT }
     ensures { OnOk result ((c : List ℕ) → get bytes_eq table.new c ≡ fold (fold (entry_after (super_entry w.now (get bytes_eq deciding.now)) c)) (get bytes_eq table.old c) files.now) }
 {
     'files: for file in files {
-        add_superclasses_of_file(w, deciding, object, table, file.as_slice())?;
+        add_superclasses_of_file(w, deciding, object, table, file.facts())?;
     }
     Ok(())
 }

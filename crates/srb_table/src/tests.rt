@@ -1,5 +1,6 @@
 // The worlds of small projects and of a large one.
 use crate::world::world_of;
+use srb_summary::Summary;
 use srb_terms::{Fact, Given, How, Items, Kind, Name, Names, NoMemory, Ty, World};
 use std::alloc::Global;
 
@@ -118,7 +119,7 @@ fn is_circular(alloc: Global, world: &World, c: &str, to: &str) -> Result<bool, 
 }
 
 // class P includes B; class D < C in module A, which has a constant X
-fn first_file(alloc: Global) -> Result<Items<Fact>, NoMemory> {
+fn first_file(alloc: Global) -> Result<Summary, NoMemory> {
     let mut facts = Items::new(alloc);
     add_scope(alloc, &mut facts, "A", Kind::Module)?;
     add_value(alloc, &mut facts, "A::X", &["A"], "String")?;
@@ -127,11 +128,11 @@ fn first_file(alloc: Global) -> Result<Items<Fact>, NoMemory> {
     add_scope(alloc, &mut facts, "B", Kind::Module)?;
     add_scope(alloc, &mut facts, "P", Kind::Class)?;
     add_parent(alloc, &mut facts, "P", &["P"], &["B"], How::Include)?;
-    Ok(facts)
+    Summary::of(alloc, facts)
 }
 
 // class C < P includes A and then B, and extends A, P, which is no module, and B
-fn second_file(alloc: Global) -> Result<Items<Fact>, NoMemory> {
+fn second_file(alloc: Global) -> Result<Summary, NoMemory> {
     let mut facts = Items::new(alloc);
     add_scope(alloc, &mut facts, "C", Kind::Class)?;
     add_parent(alloc, &mut facts, "C", &[], &["P"], How::Super)?;
@@ -140,7 +141,7 @@ fn second_file(alloc: Global) -> Result<Items<Fact>, NoMemory> {
     add_parent(alloc, &mut facts, "C", &["C"], &["A"], How::Extend)?;
     add_parent(alloc, &mut facts, "C", &["C"], &["P"], How::Extend)?;
     add_parent(alloc, &mut facts, "C", &["C"], &["B"], How::Extend)?;
-    Ok(facts)
+    Summary::of(alloc, facts)
 }
 
 fn two_files(alloc: Global) -> Result<World, NoMemory> {
@@ -198,24 +199,24 @@ fn superclasses_and_extended_modules(rt: HostRuntime) -> Result<(), NoMemory> {
 }
 
 // `class A < B`, `class X < String`
-fn circle_begun(alloc: Global) -> Result<Items<Fact>, NoMemory> {
+fn circle_begun(alloc: Global) -> Result<Summary, NoMemory> {
     let mut facts = Items::new(alloc);
     add_scope(alloc, &mut facts, "A", Kind::Class)?;
     add_parent(alloc, &mut facts, "A", &[], &["B"], How::Super)?;
     add_scope(alloc, &mut facts, "X", Kind::Class)?;
     add_parent(alloc, &mut facts, "X", &[], &["String"], How::Super)?;
-    Ok(facts)
+    Summary::of(alloc, facts)
 }
 
 // `class B < A`, `class BasicObject < X`, `class X < Integer`
-fn circle_closed(alloc: Global) -> Result<Items<Fact>, NoMemory> {
+fn circle_closed(alloc: Global) -> Result<Summary, NoMemory> {
     let mut facts = Items::new(alloc);
     add_scope(alloc, &mut facts, "B", Kind::Class)?;
     add_parent(alloc, &mut facts, "B", &[], &["A"], How::Super)?;
     add_parent(alloc, &mut facts, "BasicObject", &[], &["X"], How::Super)?;
     add_scope(alloc, &mut facts, "X", Kind::Class)?;
     add_parent(alloc, &mut facts, "X", &[], &["Integer"], How::Super)?;
-    Ok(facts)
+    Summary::of(alloc, facts)
 }
 
 fn circle(alloc: Global) -> Result<World, NoMemory> {

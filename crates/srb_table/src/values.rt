@@ -7,18 +7,19 @@ ghost use Rattle.srb_terms.specs.Worlds.{kind_at};
 ghost use Rattle.srb_table.specs.Steps.{value_after};
 
 use indexmap::IndexMap;
-use srb_terms::{Fact, Given, Items, Kind, Name, NoMemory, Ty, World};
+use srb_summary::Summary;
+use srb_terms::{Fact, Given, Kind, Name, NoMemory, Ty, World};
 
 /// Adds the types of value constants by the facts of some files.
 pub fn add_values(
     w: &World,
     table: &mut IndexMap<Name, Ty>,
-    files: &[Items<Fact>],
+    files: &[Summary],
 ) -> Result<(), NoMemory>
     ensures { OnOk result ((c : List ℕ) → get bytes_eq table.new c ≡ fold (fold (value_after w.now c)) (get bytes_eq table.old c) files.now) }
 {
     'files: for file in files {
-        add_values_of_file(w, table, file.as_slice())?;
+        add_values_of_file(w, table, file.facts())?;
     }
     Ok(())
 }

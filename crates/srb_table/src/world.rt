@@ -22,11 +22,12 @@ use indexmap::IndexMap;
 use srb_ancestors::circular;
 use srb_builtin::table;
 use srb_rules::Link;
+use srb_summary::Summary;
 use srb_terms::{Fact, Items, Name, Names, NoMemory, Ty, World};
 use std::alloc::Global;
 
 /// The symbol table of the built-in table's facts and then those of the files, in path order.
-pub fn build(alloc: Global, files: &[Items<Fact>]) -> Result<World, NoMemory>
+pub fn build(alloc: Global, files: &[Summary]) -> Result<World, NoMemory>
     ensures { IfOk result (λ w. Stands w (facts_of built_in files.now)) }
 {
     let first = table(alloc)?;
@@ -34,7 +35,7 @@ pub fn build(alloc: Global, files: &[Items<Fact>]) -> Result<World, NoMemory>
 }
 
 /// The symbol table of some facts: those of `first`, and then those of the files in their order.
-pub fn world_of(alloc: Global, first: &[Fact], files: &[Items<Fact>]) -> Result<World, NoMemory>
+pub fn world_of(alloc: Global, first: &[Fact], files: &[Summary]) -> Result<World, NoMemory>
     ensures { IfOk result (λ w. Stands w (facts_of first.now files.now)) }
 {
     let world = named(alloc, first, files)?;
@@ -43,7 +44,7 @@ pub fn world_of(alloc: Global, first: &[Fact], files: &[Items<Fact>]) -> Result<
 }
 
 // The table with the names and their kinds alone.
-fn named(alloc: Global, first: &[Fact], files: &[Items<Fact>]) -> Result<World, NoMemory>
+fn named(alloc: Global, first: &[Fact], files: &[Summary]) -> Result<World, NoMemory>
     ensures names { IfOk result (λ w. KnowsNames w (facts_of first.now files.now)) }
     ensures members { IfOk result HasNoMembers }
 {
@@ -98,7 +99,7 @@ fn all_tables(
     alloc: Global,
     w: &World,
     first: &[Fact],
-    files: &[Items<Fact>],
+    files: &[Summary],
 ) -> Result<Tables, NoMemory>
     ensures { IfOk result (λ t. KnowsNames w.now (facts_of first.now files.now) → AreTables t (facts_of first.now files.now)) }
 {
@@ -140,7 +141,7 @@ fn all_ancestry(
     alloc: Global,
     w: &World,
     first: &[Fact],
-    files: &[Items<Fact>],
+    files: &[Summary],
 ) -> Result<Ancestry, NoMemory>
     ensures { IfOk result (λ t. KnowsNames w.now (facts_of first.now files.now) → AreAncestry t (facts_of first.now files.now)) }
 {
@@ -160,7 +161,7 @@ fn all_linked(
     deciding: &Deciding,
     superclasses: &IndexMap<Name, Name>,
     first: &[Fact],
-    files: &[Items<Fact>],
+    files: &[Summary],
 ) -> Result<Linked, NoMemory>
     ensures { IfOk result (λ t. KnowsNames w.now (facts_of first.now files.now) → ((c : List ℕ) → get bytes_eq deciding.now c ≡ parents.deciding (facts_of first.now files.now) c) → ((c : List ℕ) → get bytes_eq superclasses.now c ≡ parents.superclass_of (facts_of first.now files.now) c) → AreLinked t (facts_of first.now files.now)) }
 {
@@ -178,7 +179,7 @@ fn lins(
     circular: &[Link],
     links: &Items<Link>,
     first: &[Fact],
-    files: &[Items<Fact>],
+    files: &[Summary],
 ) -> Result<IndexMap<Name, Names>, NoMemory>
     ensures { IfOk result (λ t. KnowsNames w.now (facts_of first.now files.now) → links.now ≡ parents.links (facts_of first.now files.now) → circular.now ≡ circular_links links.now → (c : List ℕ) → get bytes_eq t c ≡ lin_in (facts_of first.now files.now) c) }
 {
@@ -192,7 +193,7 @@ fn extended(
     alloc: Global,
     w: &World,
     first: &[Fact],
-    files: &[Items<Fact>],
+    files: &[Summary],
 ) -> Result<IndexMap<Name, Names>, NoMemory>
     ensures { IfOk result (λ t. KnowsNames w.now (facts_of first.now files.now) → (c : List ℕ) → get bytes_eq t c ≡ parents.extended_of (facts_of first.now files.now) c) }
 {
@@ -206,7 +207,7 @@ fn all_lins(
     w: &World,
     lins: &IndexMap<Name, Names>,
     first: &[Fact],
-    files: &[Items<Fact>],
+    files: &[Summary],
 ) -> Result<IndexMap<Name, Names>, NoMemory>
     ensures { IfOk result (λ t. KnowsNames w.now (facts_of first.now files.now) → ((c : List ℕ) → unwrap_or (get bytes_eq lins.now c) (c ∷ []) ≡ lin_of (counted (parents.links (facts_of first.now files.now))) c) → (c : List ℕ) → get bytes_eq t c ≡ lin_in (facts_of first.now files.now) c) }
 {
