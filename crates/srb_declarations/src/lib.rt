@@ -7,7 +7,7 @@
 mod declaration;
 pub mod laws;
 mod mixin;
-mod naming;
+pub mod naming;
 #[cfg(test)]
 mod tests;
 mod walk;

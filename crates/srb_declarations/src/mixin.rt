@@ -6,25 +6,12 @@ ghost use Rattle.rb_views.specs.Paths.{seen_path};
 ghost use Rattle.srb_declarations.specs.Declarations as spec;
 
 use crate::declaration::Declaration;
-use crate::naming::written;
+use crate::naming::{mixin_named, written};
 use rb_tree::syntax::{Argument, Tree};
 use rb_views::call::Call;
 use rb_views::path::Path;
 use srb_terms::{How, Items, Name, Names, NoMemory, Span};
 use std::alloc::Global;
-
-/// The way in which a call of this name refers to its arguments.
-fn mixin_named(name: &str) -> Option<How>
-    ensures { result ≡ spec.mixin_named name.now }
-{
-    if name == "include" {
-        Some(How::Include)
-    } else if name == "extend" {
-        Some(How::Extend)
-    } else {
-        None
-    }
-}
 
 /// The whole place of an argument, with its label or its `&`.
 fn argument_span(argument: &Argument<Tree>) -> Span

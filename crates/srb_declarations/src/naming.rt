@@ -1,4 +1,4 @@
-//! Full names, and paths as lists of names.
+//! Full names, paths as lists of names, and the names of the calls that refer to mixins.
 
 ghost use Rattle.std.specs.Prelude.{◌≡◌, map, IfOk};
 ghost use Rattle.rb_views.specs.Paths.{seen_names};
@@ -7,7 +7,7 @@ ghost use Rattle.srb_declarations.specs.Declarations as spec;
 
 use rb_tree::syntax::PlacedName;
 use rb_views::path::PathNames;
-use srb_terms::{Items, Name, Names, NoMemory};
+use srb_terms::{How, Items, Name, Names, NoMemory};
 use std::alloc::Global;
 
 /// The full name of what has this name in a scope.
@@ -84,5 +84,18 @@ pub fn written<'a>(alloc: Global, top: bool, names: PathNames<'a>) -> Result<Nam
         list.pushed(alloc, Name::from_str(alloc, "")?)
     } else {
         Ok(list)
+    }
+}
+
+/// The way in which a call of this name refers to its arguments.
+pub fn mixin_named(name: &str) -> Option<How>
+    ensures { result ≡ spec.mixin_named name.now }
+{
+    if name == "include" {
+        Some(How::Include)
+    } else if name == "extend" {
+        Some(How::Extend)
+    } else {
+        None
     }
 }

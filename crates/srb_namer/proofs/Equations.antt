@@ -21,7 +21,7 @@ use Rattle.rb_tree.specs.declared.syntax.Node.{Node, out-Node}
 use Rattle.rb_tree.specs.declared.syntax.Node.TheOpen.{Node-F}
 use Rattle.rb_tree.specs.declared.syntax.Node.TheViews.{roll-Node, roll-out-Node}
 use Rattle.rb_tree.specs.declared.syntax.Node.TheFolds.{map-Node, para-Node, para-Tree, para-roll-Node, para-roll-Tree}
-use Rattle.srb_namer.specs.Declarations.{Place, place, inside, after_sig, class_place, method_place, declared_name, with_class, with_module, mixed, with_assigned, with_method, owner, sig_text}
+use Rattle.srb_namer.specs.Declarations.{Place, place, inside, after_sig, class_place, method_place, with_class, with_module, mixed, with_assigned, with_method, owner, sig_text}
 use Rattle.rb_tree.specs.declared.syntax.Node.TheShapes.{former-Node-Begin-0, former-Node-Def-4}
 use Rattle.srb_namer.specs.Facts.{Adds, each, if_there, by_argument, by_rescue, by_guarded, by_parameter, by_node, by_body, by_statements, sig_if, Added, added_at, added, plain_of, body_of, plain_by_node, body_by_node}
 

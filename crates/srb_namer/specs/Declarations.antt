@@ -1,4 +1,5 @@
--- What single declarations declare: names, paths, mixins, constants, methods and instance variables.
+-- What single declarations declare: classes and modules, mixins, constants, methods and instance variables. Full names and paths are
+-- those of `srb_declarations`.
 use Rattle.std.specs.Prelude.{ℕ, Bool, true, false, ◌&&◌, List, [], ◌∷◌, ◌++◌, map, codes, bytes_eq, if◌then◌else◌, Option, Some, None, option_map}
 use Rattle.std.specs.Option.{option_copied}
 use Rattle.srb_terms.specs.declared.fact.Fact.{Fact}
@@ -7,7 +8,6 @@ use Rattle.srb_terms.specs.declared.fact.Given.{Given}
 use Rattle.srb_terms.specs.declared.fact.Given.TheVariants as given
 use Rattle.srb_terms.specs.declared.fact.How.{How}
 use Rattle.srb_terms.specs.declared.fact.How.TheVariants as how
-use Rattle.srb_terms.specs.declared.fact.Kind.{Kind}
 use Rattle.srb_terms.specs.declared.fact.Kind.TheVariants as kind
 use Rattle.srb_terms.specs.declared.fact.ParamShape.{ParamShape}
 use Rattle.srb_terms.specs.declared.outline.SigText.{SigText}
@@ -17,7 +17,6 @@ use Rattle.rb_tree.specs.declared.syntax.Argument.TheVariants as argument
 use Rattle.rb_tree.specs.declared.syntax.Dot.{Dot}
 use Rattle.rb_tree.specs.declared.syntax.Dot.TheVariants as dot
 use Rattle.rb_tree.specs.declared.syntax.Parameter.{Parameter}
-use Rattle.rb_tree.specs.declared.syntax.PlacedName.{PlacedName}
 use Rattle.rb_tree.specs.declared.syntax.Reference.{Reference}
 use Rattle.rb_tree.specs.declared.syntax.Suffix.{Suffix}
 use Rattle.rb_tree.specs.declared.syntax.Tree.{Tree}
@@ -27,6 +26,8 @@ use Rattle.rb_outline.specs.Outlines.{outline_of}
 use Rattle.rb_views.specs.Calls.{Call, Receiver, call_of}
 use Rattle.rb_views.specs.Paths.{Path, path_of}
 use Rattle.rb_rewrite.specs.Declaring.{is_missing}
+use Rattle.srb_rules.specs.FullNames.{full_name}
+use Rattle.srb_declarations.specs.Declarations.{innermost, mixin_named, written}
 use Rattle.srb_namer.specs.declared.place.Place as lent
 
 -- ---- places
@@ -62,40 +63,12 @@ class_place p name = place (name ∷ p.scope) true None
 abbrev pub method_place : Place → Bool → Place
 method_place p own = place p.scope own None
 
--- ---- names
+-- ---- owners and paths
 
 -- what has its body there: the innermost class or module, `Object` at the program's level
 abbrev pub owner : List (List ℕ) → List ℕ
 owner [] = codes "Object"
 owner (name ∷ scope) = name
-
--- two names with `::` between them
-abbrev pub with_colons : List ℕ → List ℕ → List ℕ
-with_colons first last = first ++ codes "::" ++ last
-
--- the full name of what is declared under this name
-abbrev pub full_name : List (List ℕ) → List ℕ → List ℕ
-full_name [] name = name
-full_name (first ∷ scope) name = with_colons first name
-
--- names with `::` between them, after what stands so far
-abbrev pub joined_from : List ℕ → List PlacedName → List ℕ
-joined_from so_far [] = so_far
-joined_from so_far (n ∷ names) = joined_from (with_colons so_far n.name) names
-
-abbrev pub joined : List PlacedName → List ℕ
-joined [] = []
-joined (n ∷ names) = joined_from n.name names
-
--- ---- paths
-
-abbrev pub placed_name : PlacedName → List ℕ
-placed_name n = n.name
-
--- a path as it is written: one that begins with `::` has an empty first name
-abbrev pub written : Bool → List PlacedName → List (List ℕ)
-written true names = [] ∷ map placed_name names
-written false names = map placed_name names
 
 abbrev pub whole_path : List (Suffix Tree) → Path → Option (List (List ℕ))
 whole_path [] p = Some (written p.top p.names)
@@ -122,17 +95,7 @@ with_class p name superclass facts = with_superclass p name superclass (facts ++
 abbrev pub with_module : List ℕ → List Fact → List Fact
 with_module name facts = facts ++ fact.Scope name kind.Module ∷ []
 
--- the full name of a class or module that is declared by this path
-abbrev pub declared_name : Place → List PlacedName → List ℕ
-declared_name p path = full_name p.scope (joined path)
-
 -- ---- mixins
-
--- the way in which a call of this name refers to its arguments
-abbrev pub mixin_named : List ℕ → Option How
-mixin_named name =
-    if bytes_eq name (codes "include") then Some how.Include
-    else (if bytes_eq name (codes "extend") then Some how.Extend else None)
 
 abbrev pub with_path : Place → How → Option (List (List ℕ)) → List Fact → List Fact
 with_path p way None facts = facts
@@ -231,7 +194,7 @@ abbrev pub given_of : Tree → Given
 given_of value = given_by value (asserted_type value)
 
 abbrev pub with_constant : Place → List ℕ → Tree → List Fact → List Fact
-with_constant p name value facts = facts ++ fact.Value (full_name p.scope name) p.scope (given_of value) ∷ []
+with_constant p name value facts = facts ++ fact.Value (full_name (innermost p.scope) name) p.scope (given_of value) ∷ []
 
 -- ---- instance variables
 

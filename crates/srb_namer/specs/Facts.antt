@@ -21,7 +21,8 @@ use Rattle.rb_tree.specs.declared.syntax.Node.{Node, out-Node}
 use Rattle.rb_tree.specs.declared.syntax.Node.TheOpen.{Node-F}
 use Rattle.rb_rewrite.specs.Declaring.{is_sig}
 use Rattle.rb_rewrite.specs.Rewriting.{attrs_of}
-use Rattle.srb_namer.specs.Declarations.{Place, place, inside, after_sig, class_place, method_place, declared_name, with_class, with_module, mixed, with_assigned, with_method}
+use Rattle.srb_declarations.specs.Declarations.{declared_name}
+use Rattle.srb_namer.specs.Declarations.{Place, place, inside, after_sig, class_place, method_place, with_class, with_module, mixed, with_assigned, with_method}
 
 -- what a part adds to the facts so far, by its place
 abbrev pub Adds : Type 0
@@ -122,9 +123,9 @@ module _ {X : Type 0} (it : X → Tree) (f body : X → Adds) where
       if_there f otherwise (inside p) (each (by_when f) arms (inside p) (if_there f subject (inside p) facts))
   by_node (Node-F.Begin guarded span) p facts = by_guarded f guarded (inside p) facts
   by_node (Node-F.Class path superclass inner span) p facts =
-      body inner (class_place p (declared_name p path)) (with_class p (declared_name p path) superclass facts)
+      body inner (class_place p (declared_name p.scope path)) (with_class p (declared_name p.scope path) superclass facts)
   by_node (Node-F.Module path inner span) p facts =
-      body inner (class_place p (declared_name p path)) (with_module (declared_name p path) facts)
+      body inner (class_place p (declared_name p.scope path)) (with_module (declared_name p.scope path) facts)
   by_node (Node-F.Def visibility own name name_span parameters guarded span) p facts =
       by_guarded f guarded (method_place p own)
       (each (by_parameter f) parameters (method_place p own) (with_method p own name parameters facts))

@@ -3,15 +3,16 @@
 ghost use Rattle.std.specs.Prelude.{◌≡◌, ◌∷◌, map, option_map, IfOk, OnOk};
 ghost use Rattle.std.specs.Option.{option_copied};
 ghost use Rattle.rb_views.specs.Calls.{seen_call, seen_receiver};
-ghost use Rattle.rb_views.specs.Paths.{seen_names, seen_path};
+ghost use Rattle.rb_views.specs.Paths.{seen_path};
 ghost use Rattle.srb_namer.specs.Declarations as spec;
 
 use crate::place::Place;
 use rb_outline::outline;
 use rb_rewrite::declaring::is_missing;
-use rb_tree::syntax::{Argument, Dot, Node, Parameter, PlacedName, Reference, Suffix, Tree};
+use rb_tree::syntax::{Argument, Dot, Node, Parameter, Reference, Suffix, Tree};
 use rb_views::call::{Call, Receiver};
-use rb_views::path::{Path, PathNames};
+use rb_views::path::Path;
+use srb_declarations::naming::{full_name, mixin_named, written};
 use srb_terms::{
     Fact, Given, How, Items, Kind, Name, Names, NoMemory, ParamShape, SigText, TyText,
 };
@@ -24,90 +25,6 @@ fn owner(alloc: Global, scope: &Names) -> Result<Name, NoMemory>
     match scope.split() {
         None => Name::from_str(alloc, "Object"),
         Some((first, _)) => first.copied(),
-    }
-}
-
-/// Two names with `::` between them.
-fn with_colons(alloc: Global, first: &Name, last: &Name) -> Result<Name, NoMemory>
-    ensures { IfOk result (λ n. n ≡ spec.with_colons first.now last.now) }
-{
-    let mut text = String::from_str(alloc, first.as_str())?;
-    text.push_str("::")?;
-    text.push_str(last.as_str())?;
-    Name::from_string(text)
-}
-
-/// The full name of what is declared under this name.
-fn full_name(alloc: Global, scope: &Names, name: &Name) -> Result<Name, NoMemory>
-    ensures { IfOk result (λ n. n ≡ spec.full_name scope.now name.now) }
-{
-    match scope.split() {
-        None => name.copied(),
-        Some((first, _)) => with_colons(alloc, first, name),
-    }
-}
-
-/// Names with `::` between them.
-fn joined(alloc: Global, names: &[PlacedName]) -> Result<Name, NoMemory>
-    ensures { IfOk result (λ n. n ≡ spec.joined names.now) }
-{
-    match names {
-        [] => Name::from_str(alloc, ""),
-        [first, rest @ ..] => {
-            let mut so_far = first.name.copied()?;
-            'rest: for name in rest {
-                so_far = with_colons(alloc, &so_far, &name.name)?;
-            }
-            Ok(so_far)
-        }
-    }
-}
-
-/// The full name of a class or module that is declared by this path.
-pub fn declared_name<'a>(
-    alloc: Global,
-    place: Place<'a>,
-    path: &[PlacedName],
-) -> Result<Name, NoMemory>
-    ensures { IfOk result (λ n. n ≡ spec.declared_name (spec.seen_place place.entry) path.now) }
-{
-    full_name(alloc, place.scope, &joined(alloc, path)?)
-}
-
-/// The names of a path, in order.
-fn names_of<'a>(alloc: Global, names: PathNames<'a>) -> Result<Items<Name>, NoMemory>
-    ensures { IfOk result (λ items. items ≡ map spec.placed_name (seen_names names.entry)) }
-{
-    let mut items = Items::new(alloc);
-    let mut left = names;
-    'left: while let Some((name, _, rest)) = left.split() {
-        items.push(name.copied()?)?;
-        left = rest;
-    }
-    Ok(items)
-}
-
-/// These names as a list that shares its tails.
-fn listed(alloc: Global, names: Items<Name>) -> Result<Names, NoMemory>
-    ensures { IfOk result (λ list. list ≡ names) }
-{
-    let mut left = names;
-    let mut list = Names::new();
-    'left: while let Some(last) = left.pop() {
-        list = list.pushed(alloc, last)?;
-    }
-    Ok(list)
-}
-
-/// A path as it is written: one that begins with `::` has an empty first name.
-fn written<'a>(alloc: Global, top: bool, names: PathNames<'a>) -> Result<Names, NoMemory>
-    ensures { IfOk result (λ list. list ≡ spec.written top (seen_names names.entry)) }
-{
-    let list = listed(alloc, names_of(alloc, names)?)?;
-    if top {
-        list.pushed(alloc, Name::from_str(alloc, "")?)
-    } else {
-        Ok(list)
     }
 }
 
@@ -176,19 +93,6 @@ pub fn with_module(name: &Name, facts: &mut Items<Fact>) -> Result<(), NoMemory>
         name: name.copied()?,
         kind: Kind::Module,
     })
-}
-
-/// The way in which a call of this name refers to its arguments.
-fn mixin_named(name: &str) -> Option<How>
-    ensures { result ≡ spec.mixin_named name.now }
-{
-    if name == "include" {
-        Some(How::Include)
-    } else if name == "extend" {
-        Some(How::Extend)
-    } else {
-        None
-    }
 }
 
 /// Adds a mixin of this path, if there is one.

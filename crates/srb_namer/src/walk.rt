@@ -6,15 +6,14 @@ ghost use Rattle.srb_namer.specs.Declarations.{seen_place};
 ghost use Rattle.srb_namer.specs.Declarations as declared;
 ghost use Rattle.srb_namer.specs.Facts as spec;
 
-use crate::declarations::{
-    declared_name, mixed, with_assigned, with_class, with_method, with_module,
-};
+use crate::declarations::{mixed, with_assigned, with_class, with_method, with_module};
 use crate::place::{Place, after_sig, inside, method_place};
 use rb_rewrite::declaring::is_sig;
 use rb_tree::syntax::{
     Argument, Arm, Block, Guarded, Node, Pair, Parameter, Piece, Reference, Rescue, Suffix, Tree,
     When,
 };
+use srb_declarations::naming::declared_name;
 use srb_terms::{Boxed, Fact, Items, Names, NoMemory};
 use std::alloc::Global;
 
@@ -549,13 +548,13 @@ fn plain_by_node<'a>(
             body,
             ..
         } => {
-            let name = declared_name(alloc, place, path.as_slice())?;
+            let name = declared_name(alloc, place.scope, path.as_slice())?;
             with_class(alloc, place, &name, superclass_of(superclass), facts)?;
             let scope = place.scope.copied()?.pushed(alloc, name)?;
             class(alloc, body, scope, facts)
         }
         Node::Module { path, body, .. } => {
-            let name = declared_name(alloc, place, path.as_slice())?;
+            let name = declared_name(alloc, place.scope, path.as_slice())?;
             with_module(&name, facts)?;
             let scope = place.scope.copied()?.pushed(alloc, name)?;
             class(alloc, body, scope, facts)
