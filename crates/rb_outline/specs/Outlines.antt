@@ -179,7 +179,7 @@ module _ {X : Type 0} (f : X → Outline) where
   abbrev pub block_outline : Block X → Outline
   block_outline b = outline kind.Block [] (map name_outline b.parameters ++ f b.body ∷ [])
 
-  -- what a call has behind its name: the brackets, and then the block
+  -- what stands after the name of a call: the brackets, and then the block
   abbrev pub call_parts : Option (List (Argument X)) → Option (Block X) → List Outline
   call_parts arguments block = parts_if brackets_outline arguments ++ parts_if block_outline block
 
