@@ -1,0 +1,4 @@
+pub mod Choices
+pub mod Parents
+mod Standing
+mod Top
