@@ -1,0 +1,43 @@
+-- In a table that stands for some facts a reference is found as by the facts.
+use Rattle.std.proofs.Common.{◌≡◌, ℕ, List, [], ◌∷◌, ap, if◌then◌else◌}
+use Rattle.std.specs.Option.{unwrap_or}
+use Rattle.srb_terms.specs.Worlds.{kind_at, within_at}
+use Rattle.srb_terms.specs.declared.fact.Fact.{Fact}
+use Rattle.srb_terms.specs.declared.world.World.{World}
+use Rattle.srb_rules.specs.declared.position.Position.{Position}
+use Rattle.srb_rules.specs.declared.position.Position.TheVariants as position
+use Rattle.srb_rules.specs.Kinds.{is_body, kind_of, within_of}
+use Rattle.srb_rules.specs.Lookup.{looked_up}
+use Rattle.srb_rules.specs.Parents.{alone_by}
+use Rattle.srb_rules.specs.Resolves.{ancestors, resolves}
+use Rattle.srb_rules.specs.Standing.{Stands, ancestors_at, resolved_at}
+use Rattle.srb_references.specs.declared.reference.Reference.{Reference}
+use Rattle.srb_references.specs.References.{is_wanted, is_found, found_at, errors_by, reference_errors}
+
+-- ---- constants
+
+within-stands : (w : World) (fs : List Fact) → Stands w fs → within_at w ≡ within_of fs
+within-stands w fs s = λ i scope last. s.names scope last i
+
+alone-stands : (w : World) (fs : List Fact) → Stands w fs → (c : List ℕ) → alone_by (kind_at w) c ≡ alone_by (kind_of fs) c
+alone-stands w fs s c = ap (λ k. if is_body k then c ∷ [] else []) (s.kinds c)
+
+ancestors-stand : (w : World) (fs : List Fact) → Stands w fs → (p : Position) (c : List ℕ) → ancestors_at w p c ≡ ancestors fs p c
+ancestors-stand w fs s position.Value c = ap (λ l. unwrap_or l []) (s.lins c)
+ancestors-stand w fs s position.Parent c = alone-stands w fs s c
+
+resolved-stands :
+    (w : World) (fs : List Fact) → Stands w fs → (scope path : List (List ℕ)) (p : Position) → resolved_at w scope path p ≡ resolves fs scope path p
+unfolding resolves
+resolved-stands w fs s scope path p =
+    λ i. looked_up (within-stands w fs s i) (λ c. ancestors-stand w fs s p c i) scope path
+
+-- ---- references
+
+found-stands : (w : World) (fs : List Fact) → Stands w fs → (r : Reference) → found_at w r ≡ is_found fs r
+unfolding is_found
+found-stands w fs s r = λ i. is_wanted (λ c. s.kinds c i) r.wants_body (resolved-stands w fs s r.scope r.path r.position i)
+
+pub errors-stand : (w : World) (fs : List Fact) → Stands w fs → (rs : List Reference) → errors_by (found_at w) rs ≡ reference_errors fs rs
+unfolding reference_errors
+errors-stand w fs s rs = λ i. errors_by (λ r. found-stands w fs s r i) rs
