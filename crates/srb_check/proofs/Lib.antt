@@ -1,4 +1,6 @@
 pub mod Places
-pub mod Judging
+pub mod JudgedStatements
 pub mod Loads
+pub mod Jobs
 pub mod PlacePositions
+pub mod ArrangedErrors

@@ -1,7 +1,11 @@
+pub mod Arranged
 pub mod Characters
 pub mod Built
+pub mod Levels
 pub mod Messages
 pub mod Readings
-pub mod Records
+pub mod Symbols
 pub mod Checks
+pub mod Records
+pub mod Jobs
 pub mod Reports

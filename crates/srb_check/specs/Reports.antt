@@ -1,12 +1,14 @@
 -- Reports: one line for each error, `PATH:LINE:COLUMN: NUMBER TEXT`.
 use Rattle.std.specs.Prelude.{ℕ, zero, suc, ◌+◌, ◌||◌, ◌==◌, if◌then◌else◌, List, [], ◌∷◌, ◌++◌, codes, decimal}
 use Rattle.srb_terms.specs.declared.diag.Diag.{Diag}
+use Rattle.srb_terms.specs.declared.fact.Fact.{Fact}
 use Rattle.srb_terms.specs.Projects.{File}
 use Rattle.srb_text.specs.Lines.{ends_line, CARRIAGE_RETURN}
 use Rattle.srb_text.specs.declared.Pos.{Pos}
 use Rattle.srb_check.specs.declared.place.Place.{Place}
 use Rattle.srb_check.specs.Characters.{continues}
 use Rattle.srb_check.specs.Checks.{errors_of}
+use Rattle.srb_check.specs.Symbols.{project_facts}
 
 -- the first place of a file
 abbrev pub start : Place
@@ -51,7 +53,11 @@ file_report path bytes [] = []
 file_report path bytes (error ∷ errors) =
     report_line path (place_of bytes error.span.start) error.number error.text ++ file_report path bytes errors
 
+-- the report of these files under the facts of their project: the lines of each, in their order
+abbrev pub report_under : List Fact → List File → List ℕ
+report_under facts [] = []
+report_under facts (file ∷ files) = file_report file.0 file.1 (errors_of facts file.1) ++ report_under facts files
+
 -- the report of a project: the lines of its files, in path order
 abbrev pub report_of : List File → List ℕ
-report_of [] = []
-report_of (file ∷ files) = file_report file.0 file.1 (errors_of file.1) ++ report_of files
+report_of files = report_under (project_facts files) files

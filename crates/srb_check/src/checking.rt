@@ -1,20 +1,29 @@
-ghost use Rattle.std.specs.Prelude.{◌≡◌, ◌+◌, ℕ, List, [], ◌∷◌, IfOk};
-ghost use Rattle.srb_check.specs.Built.{built, built_statements};
-ghost use Rattle.srb_check.specs.Checks.{errors_of, shows_types};
-ghost use Rattle.srb_check.specs.Messages.{judged};
-ghost use Rattle.srb_check.specs.Records.{loaded, tree_errors, record_errors};
+ghost use Rattle.std.specs.Prelude.{◌≡◌, ◌+◌, ◌++◌, ℕ, List, IfOk, OnOk};
+ghost use Rattle.srb_conflicts.specs.Conflicts.{conflict_errors};
+ghost use Rattle.srb_declarations.specs.Declarations.{declarations_of};
+ghost use Rattle.srb_references.specs.References.{reference_errors, references_of};
+ghost use Rattle.srb_rules.specs.Standing.{Stands};
+ghost use Rattle.srb_terms.specs.declared.fact.Fact.{Fact};
+ghost use Rattle.srb_check.specs.Arranged as order;
+ghost use Rattle.srb_check.specs.Checks.{errors_of, type_errors};
+ghost use Rattle.srb_check.specs.Levels as levels;
+ghost use Rattle.srb_check.specs.Records.{loaded, record_errors, tree_errors};
+ghost use Rattle.srb_check.specs.Symbols.{symbol_errors};
 
-use crate::built::statement_of;
-use crate::errors::{not_built, push_error};
+use crate::arranged::arranged;
 use crate::file::FileRec;
-use rb_tree::syntax::{Node, Tree};
-use srb_terms::{Diag, Level, Steps, World};
+use crate::judging::{one_error, program_errors};
+use rb_tree::syntax::Tree;
+use srb_conflicts::conflicts;
+use srb_declarations::declarations;
+use srb_references::{references, unresolved};
+use srb_terms::{Diag, Items, Level, NoMemory, Steps, World};
 use std::alloc::{AllocError, Global};
 use std::sync::ledger::Ledger;
 
 /// Whether a level shows the errors of types.
 fn shows_types(level: Level) -> bool
-    ensures { result ≡ shows_types level }
+    ensures { result ≡ levels.shows_types level }
 {
     match level {
         Level::Ignore | Level::False => false,
@@ -22,79 +31,110 @@ fn shows_types(level: Level) -> bool
     }
 }
 
-/// A list of one error.
-fn one_error(alloc: Global, error: Diag) -> Result<Vec<Diag>, AllocError>
-    ensures { IfOk result (λ ds. ds.items ≡ error ∷ []) }
+/// Adds the errors of a program's declarations.
+fn add_conflicts(
+    alloc: Global,
+    world: &World,
+    tree: &Tree,
+    found: &mut Items<Diag>,
+) -> Result<(), NoMemory>
+    ensures { (fs : List Fact) → Stands world.now fs → OnOk result (found.new ≡ found.old ++ conflict_errors fs (declarations_of tree.now)) }
 {
-    let mut errors = Vec::new(alloc);
-    errors.push(error)?;
-    Ok(errors)
+    let declared = declarations(alloc, tree)?;
+    conflicts(alloc, world, declared.as_slice(), found)
 }
 
-/// The errors of statements, in order, or the one error of statements that aren't built.
-fn statements_errors(alloc: Global, statements: &[Tree]) -> Result<Vec<Diag>, AllocError>
-    ensures { IfOk result (λ ds. ds.items ≡ judged (built_statements statements.now)) }
+/// Adds the errors of a program's references that stand for nothing.
+fn add_unresolved(
+    alloc: Global,
+    world: &World,
+    tree: &Tree,
+    found: &mut Items<Diag>,
+) -> Result<(), NoMemory>
+    ensures { (fs : List Fact) → Stands world.now fs → OnOk result (found.new ≡ found.old ++ reference_errors fs (references_of tree.now)) }
 {
-    let mut errors = Vec::new(alloc);
-    for statement in statements {
-        match statement_of(statement) {
-            Some(expression) => push_error(alloc, &mut errors, expression)?,
-            None => return one_error(alloc, not_built(alloc)?),
-        }
+    let referred = references(alloc, tree)?;
+    unresolved(alloc, world, referred.as_slice(), found)
+}
+
+/// The errors of a program's declarations and references.
+fn symbol_errors(alloc: Global, world: &World, tree: &Tree) -> Result<Items<Diag>, NoMemory>
+    ensures { (fs : List Fact) → Stands world.now fs → IfOk result (λ ds. ds ≡ symbol_errors fs tree.now) }
+{
+    let mut found = Items::new(alloc);
+    add_conflicts(alloc, world, tree, &mut found)?;
+    add_unresolved(alloc, world, tree, &mut found)?;
+    Ok(found)
+}
+
+/// Adds the errors of types in a program, where the level shows them.
+fn add_type_errors(
+    alloc: Global,
+    level: Level,
+    tree: &Tree,
+    found: &mut Items<Diag>,
+) -> Result<(), NoMemory>
+    ensures { OnOk result (found.new ≡ found.old ++ type_errors level tree.now) }
+{
+    if shows_types(level) {
+        let errors = program_errors(alloc, tree)?;
+        found.append(Items::from_vec(errors))?;
     }
-    Ok(errors)
+    Ok(())
 }
 
-/// The errors of a program.
-#[tactic(auto, unfolding(crate::specs::Built::built))]
-fn program_errors(alloc: Global, tree: &Tree) -> Result<Vec<Diag>, AllocError>
-    ensures { IfOk result (λ ds. ds.items ≡ judged (built tree.now)) }
+/// The errors of a program at this level, in order.
+fn program_list(
+    alloc: Global,
+    world: &World,
+    level: Level,
+    tree: &Tree,
+) -> Result<Vec<Diag>, NoMemory>
+    ensures { (fs : List Fact) → Stands world.now fs → IfOk result (λ ds. ds.items ≡ order.arranged (symbol_errors fs tree.now ++ type_errors level tree.now)) }
 {
-    match tree.get() {
-        Node::Body { statements, .. } => statements_errors(alloc, statements.as_slice()),
-        _ => one_error(alloc, not_built(alloc)?),
-    }
+    let mut found = symbol_errors(alloc, world, tree)?;
+    add_type_errors(alloc, level, tree, &mut found)?;
+    Ok(arranged(found.into_vec()))
 }
 
-/// The errors of a tree, where there is one and the level shows them.
-fn tree_errors(alloc: Global, level: Level, tree: &Option<Tree>) -> Result<Vec<Diag>, AllocError>
-    ensures { IfOk result (λ ds. ds.items ≡ tree_errors level tree.now) }
+/// The errors of a tree, where there is one.
+fn tree_errors(
+    alloc: Global,
+    world: &World,
+    level: Level,
+    tree: &Option<Tree>,
+) -> Result<Vec<Diag>, NoMemory>
+    ensures { (fs : List Fact) → Stands world.now fs → IfOk result (λ ds. ds.items ≡ tree_errors fs level tree.now) }
 {
     match tree {
         None => Ok(Vec::new(alloc)),
-        Some(tree) => {
-            if shows_types(level) {
-                program_errors(alloc, tree)
-            } else {
-                Ok(Vec::new(alloc))
-            }
-        }
+        Some(tree) => program_list(alloc, world, level, tree),
     }
 }
 
-/// The errors that a record tells.
-fn record_errors(alloc: Global, file: &FileRec) -> Result<Vec<Diag>, AllocError>
-    ensures { IfOk result (λ ds. ds.items ≡ record_errors file.now) }
+/// The errors that a record tells, under the facts for which the symbol table stands.
+fn record_errors(alloc: Global, world: &World, file: &FileRec) -> Result<Vec<Diag>, NoMemory>
+    ensures { (fs : List Fact) → Stands world.now fs → IfOk result (λ ds. ds.items ≡ record_errors fs file.now) }
 {
     match &file.error {
         Some(error) => one_error(alloc, error.copied()?),
-        None => tree_errors(alloc, file.level, &file.tree),
+        None => tree_errors(alloc, world, file.level, &file.tree),
     }
 }
 
-/// The errors of the file that was loaded as `file`, in the world of its project. It counts one step, whatever it
-/// answers.
+/// The errors of the file that was loaded as `file`, under the facts for which the symbol table stands: those of its project. It counts
+/// one step, whatever it answers.
+#[tactic(auto, using(crate::proofs::Loads::loaded_errors))]
 pub fn check_file<L: Ledger>(
     alloc: Global,
     world: &World,
     file: &FileRec,
     steps: &mut Steps<L>,
 ) -> Result<Vec<Diag>, AllocError>
-    ensures errors { (bytes : List ℕ) → file.now ≡ loaded bytes → IfOk result (λ ds. ds.items ≡ errors_of bytes) }
-    ensures record { IfOk result (λ ds. ds.items ≡ record_errors file.now) }
+    ensures errors { (fs : List Fact) → Stands world.now fs → (bytes : List ℕ) → file.now ≡ loaded bytes → IfOk result (λ ds. ds.items ≡ errors_of fs bytes) }
+    ensures record { (fs : List Fact) → Stands world.now fs → IfOk result (λ ds. ds.items ≡ record_errors fs file.now) }
     ensures counted { steps.new ≡ steps.old + 1 }
 {
-    let _world = world;
     steps.count();
-    record_errors(alloc, file)
+    record_errors(alloc, world, file)
 }

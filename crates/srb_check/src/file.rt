@@ -1,4 +1,5 @@
 use rb_tree::syntax::Tree;
+use srb_summary::Summary;
 use srb_terms::{Diag, Level};
 use srb_text::Text;
 
@@ -13,4 +14,6 @@ pub struct FileRec {
     pub error: Option<Diag>,
     /// The tree. `None` exactly at `ignore` and where there is such an error.
     pub tree: Option<Tree>,
+    /// The facts that the file declares: none where there is no tree.
+    pub summary: Summary,
 }

@@ -1,20 +1,34 @@
-//! The check of one file: what loading keeps of its bytes, its errors, and the lines of a report.
+//! The check of files: what loading keeps of a file's bytes, the errors of a file under the facts of its project, and the lines of a
+//! report.
 //!
-//! `load` gives the record `loaded`, `check_file` the errors `errors_of` of a file that was loaded so, `fresh` those of a file of a
-//! project, and `push_report` adds the lines `file_report`. The errors of types are found so far in programs whose statements are
+//! `Files` loads the files of a project one by one, and shares the records of files that stay as they were. `Files::job` builds the symbol
+//! table of their facts, and `Job::check` and `Job::check_at` find the errors of one file: `fresh`, which the function `fresh` finds from
+//! the project's bytes alone. A `Job` and its `Files` are told by `IsJobOf` and `AreLoaded`, of which nothing else need be known.
+//!
+//! For a single file `load` gives the record `loaded`, and `check_file` the errors `errors_of` of a file that was loaded so. `push_report`
+//! adds the lines `file_report`.
+//!
+//! The errors of declarations and of constants are found in every program. Those of types are found so far in programs whose statements are
 //! literals, `T.let` and `T.reveal_type` on literals, and assignments of these to variables.
 #![tactic(auto)]
 
+mod arranged;
+#[cfg(test)]
+mod arranged_tests;
 mod built;
 mod characters;
 mod checking;
 mod errors;
 mod file;
+mod files;
 mod fresh_check;
 mod job;
+mod judging;
 pub mod laws;
 mod loading;
 mod place;
+#[cfg(test)]
+mod project_tests;
 mod reading;
 mod report;
 #[cfg(test)]
@@ -22,6 +36,7 @@ mod tests;
 
 pub use checking::check_file;
 pub use file::FileRec;
+pub use files::Files;
 pub use fresh_check::fresh;
 pub use job::Job;
 pub use loading::load;

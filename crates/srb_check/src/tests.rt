@@ -133,7 +133,7 @@ const NOT_BUILT: [&str; 35] = [
     "xY = 1",
     "@x = 1",
     "1 if true",
-    "begin\n  f\nrescue A => e\n  g\nelse\n  h\nensure\n  i\nend",
+    "begin\n  f\nrescue StandardError => e\n  g\nelse\n  h\nensure\n  i\nend",
     "def m\n  f\nrescue\n  g\nend",
 ];
 

@@ -3,6 +3,7 @@ use Rattle.std.proofs.Common.{◌≡◌, ℕ, ◌≤◌, Bool, true, false, if�
 use Rattle.std.specs.Str.{IsUtf8, chars, encode_utf8_all, is_utf8}
 use Rattle.std.proofs.lemmas.Str.{IsUtf8-from_is_utf8}
 use Rattle.srb_terms.specs.declared.diag.Diag.{Diag}
+use Rattle.srb_terms.specs.declared.fact.Fact.{Fact}
 use Rattle.srb_terms.specs.declared.span.Span.{Span}
 use Rattle.srb_terms.specs.declared.level.Level.{Level}
 use Rattle.rb_tree.specs.declared.token.Token.{Token}
@@ -25,12 +26,23 @@ use Rattle.srb_check.specs.declared.built.Expression.TheVariants.{Plain, Let, Re
 use Rattle.srb_check.specs.declared.reading.Reading.{Reading}
 use Rattle.srb_check.specs.declared.reading.Reading.TheVariants.{Program, Refused}
 use Rattle.srb_check.specs.Built.{built}
-use Rattle.srb_check.specs.Checks.{LARGEST_FILE, hides_all, shows_types, reading_errors, text_errors, errors_of}
+use Rattle.srb_check.specs.Checks.{type_errors, reading_errors, text_errors, errors_of}
+use Rattle.srb_check.specs.Levels.{LARGEST_FILE, hides_all, shows_types}
+use Rattle.srb_check.specs.Symbols.{symbol_errors}
 use Rattle.srb_check.specs.Messages.{class_name, too_large, not_utf8, is_same_class, expression_errors, expressions_errors, judged}
 use Rattle.srb_check_laws.specs.Placed.{IsPlace, AreAtPlaces}
 use Rattle.srb_check.specs.Readings.{lex_error, parse_error, parsed_reading, lexed_reading, read}
+use Rattle.srb_conflicts.specs.Conflicts.{conflict_errors}
+use Rattle.srb_declarations.specs.Declarations.{declarations_of}
+use Rattle.srb_declarations_laws.specs.Placed.{place_of}
+use Rattle.srb_declarations_laws.proofs.Programs.{programs-declare}
+use Rattle.srb_references.specs.declared.reference.Reference.{Reference}
+use Rattle.srb_references.specs.References.{reference_errors, references_of}
+use Rattle.srb_references_laws.proofs.Programs.{programs-refer}
+use Rattle.srb_check_laws.proofs.ArrangedPlaces.{append-at_places, arranged-at_places}
 use Rattle.srb_check_laws.proofs.BuiltPlaces.{IsExpressionAt, built-placed}
 use Rattle.srb_check_laws.proofs.CharacterPlaces.{text-start, character-end}
+use Rattle.srb_check_laws.proofs.SymbolPlaces.{AreErrorsAt, errors-append, conflicts-at, references-at}
 use Rattle.srb_check_laws.proofs.TokenPlaces.{InText, placed-in_text, token_place-in_text}
 
 -- ---- what a text is read to
@@ -41,7 +53,8 @@ AreExpressionsIn text expressions = Each (IsExpressionAt (InText text)) expressi
 
 abbrev IsReadingIn : List ℕ → Reading → Type 0
 IsReadingIn text (Refused error) = InText text error.span
-IsReadingIn text (Program tree) = IfSome (built tree) (AreExpressionsIn text)
+IsReadingIn text (Program tree) =
+    IfSome (built tree) (AreExpressionsIn text) × Each (λ d. InText text (place_of d)) (declarations_of tree) × Each (λ (r : Reference). InText text r.span) (references_of tree)
 
 expression-in : (text : List ℕ) (tokens : List Token) → StandInOrder text 0 tokens → (e : Expression) → IsExpressionAt (IsPlaced tokens) e → IsExpressionAt (InText text) e
 expression-in text tokens stand Plain h = tt
@@ -56,6 +69,11 @@ built-in : (text : List ℕ) (tokens : List Token) → StandInOrder text 0 token
 built-in text tokens stand None h = tt
 built-in text tokens stand (Some es) h = expressions-in text tokens stand es h
 
+each-in : {X : Type 0} (place : X → Span) (text : List ℕ) (tokens : List Token) → StandInOrder text 0 tokens → (xs : List X)
+    → Each (λ x. IsPlaced tokens (place x)) xs → Each (λ x. InText text (place x)) xs
+each-in place text tokens stand [] h = tt
+each-in place text tokens stand (x ∷ xs) h = (placed-in_text text tokens stand (place x) h.0, each-in place text tokens stand xs h.1)
+
 parse_error-in : (text : List ℕ) (tokens : List Token) → StandInOrder text 0 tokens → (end : ParseEnd) → InText text (parse_error tokens (length (encode_utf8_all text)) end).span
 parse_error-in text tokens stand (parse.Bad at) = token_place-in_text text 0 tokens at stand
 parse_error-in text tokens stand (parse.TooDeep at) = token_place-in_text text 0 tokens at stand
@@ -63,8 +81,12 @@ parse_error-in text tokens stand parse.NoMemory = token_place-in_text text 0 tok
 
 parsed-in : (text : List ℕ) (tokens : List Token) → StandInOrder text 0 tokens → (r : Result Tree ParseEnd) → parsed tokens ≡ r → IsReadingIn text (parsed_reading tokens (length (encode_utf8_all text)) r)
 parsed-in text tokens stand (Ok t) e =
-    built-in text tokens stand (built t)
-    (built-placed tokens (StandsAt tokens) (λ u h. (trees-stand-by-nodes tokens u).0 h) t (trees-stand-at-tokens tokens t (programs-derive tokens t e)))
+    let derives = programs-derive tokens t e in (
+      built-in text tokens stand (built t)
+          (built-placed tokens (StandsAt tokens) (λ u h. (trees-stand-by-nodes tokens u).0 h) t (trees-stand-at-tokens tokens t derives)),
+      each-in place_of text tokens stand (declarations_of t) (programs-declare tokens t derives),
+      each-in (λ (r : Reference). r.span) text tokens stand (references_of t) (programs-refer tokens t derives),
+    )
 parsed-in text tokens stand (Err end) e = parse_error-in text tokens stand end
 
 lex_error-in : (text : List ℕ) (end : LexEnd) → lexed_text text ≡ Err end → InText text (lex_error (encode_utf8_all text) end).span
@@ -103,28 +125,42 @@ judged-places : (bytes : List ℕ) → IsUtf8 bytes → (o : Option (List Expres
 judged-places bytes utf8 None h = (inl refl, inl refl, omega arith, tt)
 judged-places bytes utf8 (Some es) h = expressions_errors-places bytes utf8 es h
 
-reading_errors-places : (bytes : List ℕ) → IsUtf8 bytes → (level : Level) (reading : Reading) → IsReadingIn (chars bytes) reading → AreAtPlaces bytes (reading_errors level reading)
-reading_errors-places bytes utf8 level (Refused error) h = let both = place-in bytes utf8 error.span h in (both.0, both.1, both.2, tt)
-reading_errors-places bytes utf8 level (Program tree) h = by_level (shows_types level)
+errors-places : (bytes : List ℕ) → IsUtf8 bytes → (errors : List Diag) → AreErrorsAt (InText (chars bytes)) errors → AreAtPlaces bytes errors
+errors-places bytes utf8 [] h = tt
+errors-places bytes utf8 (e ∷ errors) h = let both = place-in bytes utf8 e.span h.0 in (both.0, both.1, both.2, errors-places bytes utf8 errors h.1)
+
+type_errors-places : (bytes : List ℕ) → IsUtf8 bytes → (level : Level) (tree : Tree) → IfSome (built tree) (AreExpressionsIn (chars bytes)) → AreAtPlaces bytes (type_errors level tree)
+type_errors-places bytes utf8 level tree h = by_level (shows_types level)
   where
     by_level : (shown : Bool) → AreAtPlaces bytes (if shown then judged (built tree) else [])
     by_level true = judged-places bytes utf8 (built tree) h
     by_level false = tt
 
-text_errors-places : (bytes : List ℕ) → IsUtf8 bytes → AreAtPlaces bytes (text_errors (chars bytes))
-text_errors-places bytes utf8 = by_level (hides_all (level_of_text (chars bytes)))
-  where
-    by_level : (hidden : Bool) → AreAtPlaces bytes (if hidden then [] else reading_errors (level_of_text (chars bytes)) (read (chars bytes)))
-    by_level true = tt
-    by_level false = reading_errors-places bytes utf8 (level_of_text (chars bytes)) (read (chars bytes)) (read-in (chars bytes))
+reading_errors-places : (bytes : List ℕ) → IsUtf8 bytes → (facts : List Fact) (level : Level) (reading : Reading) → IsReadingIn (chars bytes) reading → AreAtPlaces bytes (reading_errors facts level reading)
+reading_errors-places bytes utf8 facts level (Refused error) h = let both = place-in bytes utf8 error.span h in (both.0, both.1, both.2, tt)
+reading_errors-places bytes utf8 facts level (Program tree) h =
+    arranged-at_places bytes (symbol_errors facts tree ++ type_errors level tree)
+    (append-at_places bytes (symbol_errors facts tree) (type_errors level tree)
+    (errors-places bytes utf8 (symbol_errors facts tree)
+    (errors-append (InText (chars bytes)) (conflict_errors facts (declarations_of tree)) (reference_errors facts (references_of tree))
+    (conflicts-at (InText (chars bytes)) facts (declarations_of tree) h.1) (references-at (InText (chars bytes)) facts (references_of tree) h.2)))
+    (type_errors-places bytes utf8 level tree h.0))
 
-pub errors_of-places : (bytes : List ℕ) → AreAtPlaces bytes (errors_of bytes)
-errors_of-places bytes = by_size (nat_lt LARGEST_FILE (length bytes))
+text_errors-places : (bytes : List ℕ) → IsUtf8 bytes → (facts : List Fact) → AreAtPlaces bytes (text_errors facts (chars bytes))
+text_errors-places bytes utf8 facts = by_level (hides_all (level_of_text (chars bytes)))
   where
-    by_form : (form : Bool) → is_utf8 bytes ≡ form → AreAtPlaces bytes (if form then text_errors (chars bytes) else not_utf8 ∷ [])
-    by_form true e = text_errors-places bytes (IsUtf8-from_is_utf8 bytes e)
+    by_level : (hidden : Bool) → AreAtPlaces bytes (if hidden then [] else reading_errors facts (level_of_text (chars bytes)) (read (chars bytes)))
+    by_level true = tt
+    by_level false = reading_errors-places bytes utf8 facts (level_of_text (chars bytes)) (read (chars bytes)) (read-in (chars bytes))
+
+pub errors_of-places : (facts : List Fact) (bytes : List ℕ) → AreAtPlaces bytes (errors_of facts bytes)
+unfolding errors_of
+errors_of-places facts bytes = by_size (nat_lt LARGEST_FILE (length bytes))
+  where
+    by_form : (form : Bool) → is_utf8 bytes ≡ form → AreAtPlaces bytes (if form then text_errors facts (chars bytes) else not_utf8 ∷ [])
+    by_form true e = text_errors-places bytes (IsUtf8-from_is_utf8 bytes e) facts
     by_form false e = (inl refl, inl refl, omega arith, tt)
 
-    by_size : (large : Bool) → AreAtPlaces bytes (if large then too_large ∷ [] else (if is_utf8 bytes then text_errors (chars bytes) else not_utf8 ∷ []))
+    by_size : (large : Bool) → AreAtPlaces bytes (if large then too_large ∷ [] else (if is_utf8 bytes then text_errors facts (chars bytes) else not_utf8 ∷ []))
     by_size true = (inl refl, inl refl, omega arith, tt)
     by_size false = by_form (is_utf8 bytes) refl

@@ -1,4 +1,4 @@
 use Rattle.srb_check.proofs.fresh_check.fresh.Given as goal
 
-abbrev pub ghosts-check_bytes : goal.ghosts-check_bytes
-ghosts-check_bytes a = record { name = a.blank.name; parts = a.blank.parts }
+abbrev pub ghosts-errors_at : goal.ghosts-errors_at
+ghosts-errors_at a = record { name = a.blank.name; parts = a.blank.parts }

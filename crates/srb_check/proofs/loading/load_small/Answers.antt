@@ -11,4 +11,6 @@ returns-in-Ok c =
 
 pub returns-in_ok-not_utf8-in-Err-NotUtf8 : goal.returns-in_ok-not_utf8-in-Err-NotUtf8
 returns-in_ok-not_utf8-in-Err-NotUtf8 c =
-    c.unread.ensures ∙ ap unread c.in_ok-not_utf8-in-Err-NotUtf8.ensures ∙ loaded_no_text c.args.bytes.now c.requires (fault_no_text c.args.bytes.now c.in-Err-NotUtf8.field-0 _ c.in-Err-NotUtf8.field-0-is c.in-Err-NotUtf8.ensures)
+    record_along c.unread.result _ _
+    (ap unread c.in_ok-not_utf8-in-Err-NotUtf8.ensures ∙ loaded_no_text c.args.bytes.now c.requires (fault_no_text c.args.bytes.now c.in-Err-NotUtf8.field-0 _ c.in-Err-NotUtf8.field-0-is c.in-Err-NotUtf8.ensures))
+    c.unread.ensures

@@ -1,0 +1,99 @@
+ghost use Rattle.std.specs.Prelude.{◌≡◌, List, [], ◌∷◌, ◌++◌, map, IfOk, OnOk};
+ghost use Rattle.srb_terms.specs.Projects.{File};
+ghost use Rattle.srb_check.specs.Jobs.{AreLoaded, IsJobOf, summary_of};
+ghost use Rattle.srb_check.specs.Records.{loaded};
+
+use crate::file::FileRec;
+use crate::job::Job;
+use crate::loading::load;
+use srb_summary::Summary;
+use srb_table::build;
+use srb_terms::{Boxed, Items, Name, NoMemory};
+use std::alloc::Global;
+use std::marker::Model;
+
+/// The files of a project, each loaded, as they are added: in the order of their paths, where the job is to find them by their paths.
+#[derive(Drop)]
+pub struct Files {
+    paths: Items<Name>,
+    records: Items<Boxed<FileRec>>,
+}
+
+impl Model for Files {
+    ghost use Rattle.std.specs.Coded.{codes};
+    ghost use Rattle.srb_check.specs.contracts.file.FileRec as file;
+    ghost use Rattle.srb_check.specs.Jobs.{AreRecords, Held};
+
+    ghost Value = { Held };
+
+    ghost coded = { Prim.hlevel (codes, file.the_row.coded) };
+
+    ghost view = { λ f. record { paths = f.paths; records = f.records } };
+
+    ghost invariant = { λ f. AreRecords f.records };
+}
+
+impl Files {
+    /// No files. It takes no memory.
+    #[tactic(auto, using(crate::proofs::Jobs::no_records))]
+    pub fn new(alloc: Global) -> Files
+        ensures { AreLoaded [] result }
+    {
+        Files {
+            paths: Items::new(alloc),
+            records: Items::new(alloc),
+        }
+    }
+
+    /// Adds the file at a path. Where `before` has the record of the same bytes at this path, it is shared.
+    pub fn add(
+        &mut self,
+        alloc: Global,
+        path: Name,
+        bytes: &[u8],
+        before: &Job,
+    ) -> Result<(), NoMemory>
+        ensures { (project : List File) → AreLoaded project self.old → OnOk result (AreLoaded (project ++ (path, bytes.now) ∷ []) self.new) }
+    {
+        let record = record_of(alloc, &path, bytes, before)?;
+        self.paths.push(path)?;
+        self.records.push(record)?;
+        Ok(())
+    }
+
+    /// The job of these files: its symbol table is built.
+    pub fn job(self, alloc: Global) -> Result<Job, NoMemory>
+        ensures { (project : List File) → AreLoaded project self → IfOk result (λ job. IsJobOf project job) }
+    {
+        let Files { paths, records } = self;
+        let summaries = summaries(alloc, records.as_slice())?;
+        let world = build(alloc, summaries.as_slice())?;
+        Ok(Job::with(world, paths, records))
+    }
+}
+
+/// The record of a file, shared with the one of the same bytes at this path, where `before` has it.
+fn record_of(
+    alloc: Global,
+    path: &Name,
+    bytes: &[u8],
+    before: &Job,
+) -> Result<Boxed<FileRec>, NoMemory>
+    ensures { IfOk result (λ r. r ≡ loaded bytes.now) }
+{
+    match before.record(path, bytes) {
+        Some(record) => record.copied(),
+        None => Boxed::new(alloc, load(alloc, bytes)?),
+    }
+}
+
+/// The facts of each file. They are shared.
+fn summaries(alloc: Global, records: &[Boxed<FileRec>]) -> Result<Vec<Summary>, NoMemory>
+    ensures { IfOk result (λ list. list.items ≡ map summary_of records.now) }
+{
+    let mut list = Vec::with_capacity(alloc, records.len())?;
+    'records: for record in records {
+        list.push(record.get().summary.copied()?)?;
+    }
+    Ok(list)
+}
