@@ -1,6 +1,6 @@
 -- What the calls of a core leave, as steps of the machine.
-use Rattle.std.proofs.Common.{◌≡◌, ◌↔◌, ℕ, suc, ◌+◌, ◌<◌, Bool, true, false, cond, not, ◌&&◌, ◌||◌, List, [], ◌∷◌, length, refl, inl, inr, ⊎_elim, sym, ap, ◌∙◌, subst, arith}
-use Rattle.std.specs.Prelude.{Option, Some, None, Result, Ok, Err, bytes_eq, is_some, unwrap_or, IsTrue, IsFalse, IsNone}
+use Rattle.std.proofs.Common.{◌≡◌, ℕ, suc, ◌+◌, ◌<◌, Bool, true, false, cond, not, ◌&&◌, ◌||◌, List, [], ◌∷◌, length, refl, inl, inr, ⊎_elim, sym, ap, ◌∙◌, subst, arith}
+use Rattle.std.specs.Prelude.{Option, Some, None, Result, Ok, bytes_eq, is_some, unwrap_or, IsNone}
 use Rattle.std.specs.List.{slice_get}
 use Rattle.std.specs.Option.{option_map, option_copied}
 use denote.Bor.{Bor}
@@ -9,28 +9,28 @@ use Rattle.std.specs.Ordering.{is_eq, is_lt, match_ordering}
 use Rattle.std.specs.Cmp.Lexicographic.{texts_ties}
 use Rattle.std.specs.declared.cmp.Ordering.{Ordering}
 use Rattle.std.specs.declared.cmp.Ordering.TheVariants.{Less, Equal, Greater}
-use Rattle.std.proofs.lemmas.Bool.Decides.{nat_tests}
 use Rattle.srb_terms.specs.Projects.{bytes_at, path_cmp, put_file, IsBeforeAll, IsProject}
 use Rattle.srb_terms.specs.declared.diag.Diag.{Diag}
-use Rattle.srb_check.specs.Checks.{fresh, fresh_of}
+use Rattle.srb_check.specs.Checks.{fresh}
+use Rattle.srb_check.specs.Jobs.{IsJobOf, Known}
 use Rattle.lsp_msg.specs.declared.id.Id.{Id}
 use Rattle.lsp_msg.specs.declared.msg.Msg.{Msg as Message}
 use Rattle.lsp_msg.specs.declared.msg.Msg.TheVariants as msg
 use Rattle.run_watch.specs.declared.end_cause.EndCause.{EndCause}
 use Rattle.run_watch.specs.declared.inp.Inp.TheVariants.{Msg}
-use Rattle.run_watch.specs.declared.step.Step.TheVariants.{Take, Build, Work}
+use Rattle.run_watch.specs.declared.step.Step.TheVariants.{Take, Build}
 use Rattle.lsp_docs.specs.declared.applied.Applied.{Applied}
 use Rattle.lsp_docs.specs.declared.doc_end.DocEnd.{DocEnd}
 use Rattle.lsp_docs.specs.Paths.{Path, Bytes, has, is_before, with_path, with_paths, without_path}
-use Rattle.lsp_docs.specs.Projects.{Project, Edit, with_bytes, without_file, after_edit, paths_of}
+use Rattle.lsp_docs.specs.Projects.{Project, with_bytes, without_file, paths_of}
 use Rattle.lsp_docs.specs.Documents.{Documents, Deed, after_deed, applied, no_documents, told_of, IsAccepted}
 use Rattle.lsp_docs.specs.Documents.Deed.{Edits, Saves}
 use Rattle.lsp_docs.specs.Uris.{is_empty}
 use Rattle.lsp_docs.proofs.PathLemmas.{same_path, self_path, bytes_at-with_bytes, length-without_had}
 use Rattle.run_core.specs.declared.row.Row.{Row}
 use Rattle.run_core.specs.declared.mark.Mark.TheVariants.{Present, Todo, Owed, Edited}
-use Rattle.run_core.specs.Rows.{marked, first_marked, lists_shown, IsBeforeRows, IsOrdered, OwedAreAsked, after_edited, built_row, after_built, worked_row, after_worked, next_index, opening_rows}
-use Rattle.run_core.specs.Sessions.{Phase, Waiting, Serving, Closing, Session, Told, told, told_by, method_of, when_serving, told_in, answer_of}
+use Rattle.run_core.specs.Rows.{marked, first_marked, lists_shown, IsBeforeRows, IsOrdered, OwedAreAsked, after_edited, after_built, worked_row, after_worked, next_index, opening_rows}
+use Rattle.run_core.specs.Sessions.{Phase, Waiting, Serving, Session, told, told_by, method_of, when_serving, told_in, answer_of}
 use Rattle.run_core.specs.Machine.{State, IsShown, opening, looked, after_message, shown_of}
 use Rattle.run_core.specs.Cores.{Makes, IsCore, IsDue, IsLeastOwn, IsNextOwn, Lands, checked_language, has_own, landed_by, state_of}
 use Rattle.run_core.proofs.NextFile.{has-at, lookup-at, marked-sorted, may_parts, next_index-path, next_path-is, next_path-some, owed_asked}
@@ -155,12 +155,12 @@ edit_makes d new phase rows left epoch stale seen owing ended m a serving unende
         }
 
 -- the rows know the paths after an edit, too
-pub edit_core : (d new : Documents) (rows left : List Row) (m : Message) (a : Applied)
+pub edit_core : (d new : Documents) (rows left : List Row) (job : Known) (m : Message) (a : Applied)
     → IsAccepted d m new a → a.edit ≡ true → IsOrdered rows → marked Present rows ≡ paths_of d.project
-    → left ≡ after_edited a.path (is_some (bytes_at a.path new.project)) rows → IsCore new true left
-edit_core d new rows left m a accepted edits order known is = by accepted.deed accepted.done accepted.told
+    → left ≡ after_edited a.path (is_some (bytes_at a.path new.project)) rows → IsCore new true left job
+edit_core d new rows left job m a accepted edits order known is = by accepted.deed accepted.done accepted.told
   where
-    by : (deed : Deed) → new ≡ after_deed d deed → a ≡ told_of deed → IsCore new true left
+    by : (deed : Deed) → new ≡ after_deed d deed → a ≡ told_of deed → IsCore new true left job
     by (Saves f) done told = absurd (grind (arith, sym edits ∙ ap (λ (x : Applied). x.edit) told))
     by (Edits e opened) done told = record {
       paths = ap (marked Present) is
@@ -169,6 +169,7 @@ edit_core d new rows left m a accepted edits order known is = by accepted.deed a
           ∙ paths_edited e.path e.now d.project rows order known
           ∙ sym (ap (λ (x : Documents). paths_of x.project) done);
       asked = λ no. absurd (grind (arith, no));
+      built = λ no. absurd (grind (arith, no));
     }
 
 -- ---- a build
@@ -181,10 +182,11 @@ built_asked (r ∷ rs) = (by r.present r.owed, built_asked rs)
     by true o e = refl
     by false o e = e
 
-pub built_core : (d : Documents) (stale : Bool) (rows : List Row) → IsCore d stale rows → IsCore d false (after_built rows)
-built_core d stale rows core = record {
+pub built_core : (d : Documents) (stale : Bool) (rows : List Row) (before job : Known) → IsCore d stale rows before → IsJobOf d.project job → IsCore d false (after_built rows) job
+built_core d stale rows before job core built = record {
   paths = marked-built-same Present rows (λ r. refl) ∙ core.paths;
   asked = λ e. built_asked rows;
+  built = λ e some. built;
 }
 
 pub build_makes : (d : Documents) (phase : Phase) (rows left : List Row) (epoch : ℕ) (stale seen : Bool) (owing : Option Id) (ended : Option EndCause)
@@ -221,8 +223,12 @@ opening-asked : (p : Project) → OwedAreAsked (opening_rows p)
 opening-asked [] = tt
 opening-asked (file ∷ files) = ((λ e. e), opening-asked files)
 
-pub opening_core : (p : Project) → IsCore (no_documents p) false (opening_rows p)
-opening_core p = record { paths = opening-present p; asked = λ e. opening-asked p }
+pub opening_core : (p : Project) (job : Known) → IsCore (no_documents p) false (opening_rows p) job
+opening_core p job = record {
+  paths = opening-present p;
+  asked = λ e. opening-asked p;
+  built = λ e some. absurd (let none = ap is_empty (opening-none p).0 in grind (arith, some, none));
+}
 
 pub opening_state : (p : Project) → state_of (no_documents p) Waiting (opening_rows p) 0 false false None None ≡ opening p
 opening_state p = let none = opening-none p in built_state (no_documents p) Waiting 0 false None None none.0 none.1 none.2 none.3
@@ -239,9 +245,16 @@ not_true : (b : Bool) → not b ≡ true → b ≡ false
 not_true true e = absurd (grind (arith, e))
 not_true false e = refl
 
+-- where some file may be worked on, the job is that of the project
+pub own_built : {job : Known} (d : Documents) (phase : Phase) (rows : List Row) (epoch : ℕ) (stale seen : Bool) (owing : Option Id) (ended : Option EndCause)
+    → IsCore d stale rows job → has_own (state_of d phase rows epoch stale seen owing ended) ≡ true → IsJobOf d.project job
+own_built d phase rows epoch stale seen owing ended core own =
+    let parts = ready_parts (looked (state_of d phase rows epoch stale seen owing ended)) (not stale) (not (is_empty (marked Todo rows))) own in
+    core.built (not_true stale parts.1) (not_true (is_empty (marked Todo rows)) parts.2)
+
 -- the row at the next index is that of the next file
-pub next_row-is : (d : Documents) (phase : Phase) (rows : List Row) (epoch : ℕ) (stale seen : Bool) (owing : Option Id) (ended : Option EndCause)
-    → IsCore d stale rows → IsOrdered rows → (looked (state_of d phase rows epoch stale seen owing ended) && not stale) ≡ true
+pub next_row-is : {job : Known} (d : Documents) (phase : Phase) (rows : List Row) (epoch : ℕ) (stale seen : Bool) (owing : Option Id) (ended : Option EndCause)
+    → IsCore d stale rows job → IsOrdered rows → (looked (state_of d phase rows epoch stale seen owing ended) && not stale) ≡ true
     → IsNextOwn (state_of d phase rows epoch stale seen owing ended) (option_map (λ (r : Row). r.path) (slice_get rows (next_index rows)))
 next_row-is d phase rows epoch stale seen owing ended core order ready =
     subst (IsNextOwn (state_of d phase rows epoch stale seen owing ended)) (sym (next_index-path rows))
@@ -261,8 +274,8 @@ next_row-some rows asked =
     by None = refl
     by (Some r) = refl
 
-pub has_own-some : (d : Documents) (phase : Phase) (rows : List Row) (epoch : ℕ) (stale seen : Bool) (owing : Option Id) (ended : Option EndCause)
-    → IsCore d stale rows → has_own (state_of d phase rows epoch stale seen owing ended) ≡ true → is_some (slice_get rows (next_index rows)) ≡ true
+pub has_own-some : {job : Known} (d : Documents) (phase : Phase) (rows : List Row) (epoch : ℕ) (stale seen : Bool) (owing : Option Id) (ended : Option EndCause)
+    → IsCore d stale rows job → has_own (state_of d phase rows epoch stale seen owing ended) ≡ true → is_some (slice_get rows (next_index rows)) ≡ true
 has_own-some d phase rows epoch stale seen owing ended core own =
     let parts = ready_parts (looked (state_of d phase rows epoch stale seen owing ended)) (not stale) (not (is_empty (marked Todo rows))) own in
     next_row-some rows (core.asked (not_true stale parts.1)) ∙ parts.2
@@ -274,8 +287,8 @@ some_within rows i some = by (slice_get rows i) refl some
     by None is e = absurd (grind (arith, e))
     by (Some r) is e = slice_get_within rows i r is
 
-pub has_own-within : (d : Documents) (phase : Phase) (rows : List Row) (epoch : ℕ) (stale seen : Bool) (owing : Option Id) (ended : Option EndCause)
-    → IsCore d stale rows → has_own (state_of d phase rows epoch stale seen owing ended) ≡ true → next_index rows < length rows
+pub has_own-within : {job : Known} (d : Documents) (phase : Phase) (rows : List Row) (epoch : ℕ) (stale seen : Bool) (owing : Option Id) (ended : Option EndCause)
+    → IsCore d stale rows job → has_own (state_of d phase rows epoch stale seen owing ended) ≡ true → next_index rows < length rows
 has_own-within d phase rows epoch stale seen owing ended core own =
     some_within rows (next_index rows) (has_own-some d phase rows epoch stale seen owing ended core own)
 
@@ -289,10 +302,11 @@ worked_asked f list (r ∷ rs) asked = by (bytes_eq f r.path) (worked_asked f li
     by true rest = ((λ e. e), asked.1)
     by false rest = (asked.0, rest)
 
-pub worked_core : (d : Documents) (stale : Bool) (rows left : List Row) (f : Path) (list : Option (List Diag)) → IsCore d stale rows → left ≡ after_worked f list rows → IsCore d stale left
-worked_core d stale rows left f list core is = record {
+pub worked_core : (d : Documents) (stale : Bool) (rows left : List Row) (job : Known) (f : Path) (list : Option (List Diag)) → IsCore d stale rows job → IsJobOf d.project job → left ≡ after_worked f list rows → IsCore d stale left job
+worked_core d stale rows left job f list core built is = record {
   paths = ap (marked Present) is ∙ marked-worked-same Present f list rows (λ r. refl) ∙ core.paths;
   asked = λ e. subst OwedAreAsked (sym is) (worked_asked f list rows (core.asked e));
+  built = λ e some. built;
 }
 
 worked_state : (d : Documents) (phase : Phase) (epoch : ℕ) (stale : Bool) (owing : Option Id) (ended : Option EndCause) {todo todo2 owed owed2 edited edited2 : List Path} {shown shown2 : List (Path × List Diag)}
@@ -306,8 +320,8 @@ shown_rightly s row list true owed last due = ⊎_elim (λ e. inl (owed ∙ e)) 
 shown_rightly s row list false owed last due = (owed ∙ due.0, due.1 ∙ sym last)
 
 -- the file of the next row is the one that may be worked on
-least_own : (d : Documents) (phase : Phase) (rows : List Row) (epoch : ℕ) (stale seen : Bool) (owing : Option Id) (ended : Option EndCause) (row : Row)
-    → IsCore d stale rows → IsOrdered rows → has_own (state_of d phase rows epoch stale seen owing ended) ≡ true → slice_get rows (next_index rows) ≡ Some row
+least_own : {job : Known} (d : Documents) (phase : Phase) (rows : List Row) (epoch : ℕ) (stale seen : Bool) (owing : Option Id) (ended : Option EndCause) (row : Row)
+    → IsCore d stale rows job → IsOrdered rows → has_own (state_of d phase rows epoch stale seen owing ended) ≡ true → slice_get rows (next_index rows) ≡ Some row
     → IsLeastOwn (state_of d phase rows epoch stale seen owing ended) row.path
 least_own d phase rows epoch stale seen owing ended row core order own is =
     let parts = ready_parts (looked (state_of d phase rows epoch stale seen owing ended)) (not stale) (not (is_empty (marked Todo rows))) own in
@@ -315,8 +329,8 @@ least_own d phase rows epoch stale seen owing ended row core order own is =
     (next_row-is d phase rows epoch stale seen owing ended core order parts.0)
 
 -- fewer files are to be worked on then
-pub worked_fewer : (d : Documents) (phase : Phase) (rows left : List Row) (epoch : ℕ) (stale seen : Bool) (owing : Option Id) (ended : Option EndCause) (row : Row) (list : Option (List Diag))
-    → IsCore d stale rows → IsOrdered rows → has_own (state_of d phase rows epoch stale seen owing ended) ≡ true → slice_get rows (next_index rows) ≡ Some row
+pub worked_fewer : {job : Known} (d : Documents) (phase : Phase) (rows left : List Row) (epoch : ℕ) (stale seen : Bool) (owing : Option Id) (ended : Option EndCause) (row : Row) (list : Option (List Diag))
+    → IsCore d stale rows job → IsOrdered rows → has_own (state_of d phase rows epoch stale seen owing ended) ≡ true → slice_get rows (next_index rows) ≡ Some row
     → left ≡ after_worked row.path list rows → length (marked Todo left) < length (marked Todo rows)
 worked_fewer d phase rows left epoch stale seen owing ended row list core order own is left_is =
     let least = least_own d phase rows epoch stale seen owing ended row core order own is in
@@ -328,9 +342,9 @@ worked_fewer d phase rows left epoch stale seen owing ended row list core order 
     omega (arith, fewer, size)
 
 -- the rows and the mark after a file was worked on make the machine's step
-pub worked_lands : (d : Documents) (phase : Phase) (rows left : List Row) (epoch : ℕ) (stale seen : Bool) (owing : Option Id) (ended : Option EndCause) (i : ℕ) (row : Row) (list : List Diag) (shown : Bool)
-    → IsCore d stale rows → IsOrdered rows → has_own (state_of d phase rows epoch stale seen owing ended) ≡ true
-    → i ≡ next_index rows → slice_get rows i ≡ Some row → list ≡ fresh_of (bytes_at row.path d.project)
+pub worked_lands : {job : Known} (d : Documents) (phase : Phase) (rows left : List Row) (epoch : ℕ) (stale seen : Bool) (owing : Option Id) (ended : Option EndCause) (i : ℕ) (row : Row) (list : List Diag) (shown : Bool)
+    → IsCore d stale rows job → IsOrdered rows → has_own (state_of d phase rows epoch stale seen owing ended) ≡ true
+    → i ≡ next_index rows → slice_get rows i ≡ Some row → list ≡ fresh d.project row.path
     → IsDue row list shown → left ≡ after_worked row.path (cond shown (Some list) None) rows
     → Lands (state_of d phase rows epoch stale seen owing ended) (state_of d phase left epoch stale false owing ended) (landed_by d row.path epoch list shown)
 worked_lands d phase rows left epoch stale seen owing ended i row list shown core order own index is found due left_is =

@@ -12,4 +12,5 @@ pub mod Landing
 pub mod RowMarks
 pub mod RowIndexes
 pub mod NextFile
+pub mod Loading
 pub mod CoreSteps

@@ -1,9 +1,8 @@
 -- The first rows with a mark, as the first paths of their sets, and the file to be worked on next.
 use Rattle.std.proofs.Common.{◌≡◌, ℕ, zero, suc, Bool, true, false, cond, not, ◌&&◌, ◌||◌, List, [], ◌∷◌, length, refl, sym, ap, ◌∙◌, nat_lt, arith}
-use Rattle.std.specs.Prelude.{Option, Some, None, bytes_eq, is_some, unwrap_or, IsTrue, IsFalse}
+use Rattle.std.specs.Prelude.{Option, Some, None, bytes_eq, is_some, unwrap_or}
 use Rattle.std.specs.List.{slice_get}
 use Rattle.std.specs.Option.{option_map}
-use Rattle.std.proofs.lemmas.Bool.{and_parts}
 use Rattle.std.proofs.lemmas.Bool.Decides.{nat_tests}
 use Rattle.srb_terms.specs.declared.diag.Diag.{Diag}
 use Rattle.lsp_docs.specs.Paths.{Path, has, is_before, lookup}
@@ -13,8 +12,8 @@ use Rattle.run_core.specs.declared.row.Row.{Row}
 use Rattle.run_core.specs.declared.mark.Mark.{Mark}
 use Rattle.run_core.specs.declared.mark.Mark.TheVariants.{Todo, Owed}
 use Rattle.run_core.specs.Rows.{has_mark, marked, with_list, lists_shown, first_marked, next_index, IsBeforeRows, IsOrdered, OwedAreAsked}
-use Rattle.run_core.specs.Machine.{State, looked, may_work}
-use Rattle.run_core.specs.Cores.{IsNextOwn, has_own}
+use Rattle.run_core.specs.Machine.{State, looked}
+use Rattle.run_core.specs.Cores.{IsNextOwn}
 use Rattle.run_core.proofs.RowMarks.{apart, apart_back, not_back, IsBeforePaths, marked-before}
 use Rattle.run_core.proofs.RowIndexes.{before_at}
 

@@ -1,6 +1,6 @@
 -- Rows by their index: the first with a mark, where a path belongs, and what is written at an index.
-use Rattle.std.proofs.Common.{◌≡◌, ℕ, zero, suc, ◌+◌, ◌<◌, ◌≤◌, Bool, true, false, cond, List, [], ◌∷◌, ◌++◌, length, get_or, take, drop, insert, slice_set, nat_eq, refl, sym, ap, ◌∙◌, subst, inl, inr, arith}
-use Rattle.std.specs.Prelude.{Option, Some, None, bytes_eq, unwrap_or}
+use Rattle.std.proofs.Common.{◌≡◌, ℕ, zero, suc, ◌<◌, ◌≤◌, Bool, true, false, cond, List, [], ◌∷◌, ◌++◌, length, get_or, take, drop, insert, slice_set, nat_eq, refl, sym, ap, ◌∙◌, inl, inr, arith}
+use Rattle.std.specs.Prelude.{Option, Some, bytes_eq, unwrap_or}
 use Rattle.std.specs.List.{slice_get}
 use Rattle.std.proofs.lemmas.Option.{slice_get_read}
 use Rattle.std.proofs.lemmas.Bool.Decides.{nat_tests}
@@ -10,8 +10,8 @@ use Rattle.lsp_docs.specs.Uris.{is_empty}
 use Rattle.lsp_docs.proofs.PathLemmas.{self_path}
 use Rattle.run_core.specs.declared.row.Row.{Row}
 use Rattle.run_core.specs.declared.mark.Mark.{Mark}
-use Rattle.run_core.specs.Rows.{has_mark, marked, first_marked, IsBeforeRows, IsOrdered, new_row, edited_row, after_edited, built_row, after_built, worked_row, after_worked, place_of, path_if, is_path_of}
-use Rattle.run_core.proofs.RowMarks.{apart, apart_back, not_back, through, either, same_test, HasRow}
+use Rattle.run_core.specs.Rows.{has_mark, marked, first_marked, IsBeforeRows, IsOrdered, new_row, edited_row, after_edited, built_row, after_built, worked_row, after_worked, place_of, is_path_of}
+use Rattle.run_core.proofs.RowMarks.{apart_back, not_back, through, either, same_test, HasRow}
 
 some_same : {X : Type 0} {x y : X} → Some x ≡ Some y → x ≡ y
 some_same {X} {x} same = ap (λ o. unwrap_or o x) same
@@ -192,17 +192,6 @@ pub built_to : (all now : List Row) (i j : ℕ) (row new : Row) → j ≡ suc i 
     → slice_set now i new ≡ after_built (take j all) ++ drop j all
 built_to all now i j row new next so_far within is written =
     built_step all now i row new so_far within is written ∙ ap (λ n. after_built (take n all) ++ drop n all) (sym next)
-
--- the marked paths, up to the index
-pub marked-take : (m : Mark) (rows : List Row) (i : ℕ) (row : Row) → slice_get rows i ≡ Some row → marked m (take (suc i) rows) ≡ marked m (take i rows) ++ path_if m row
-marked-take m [] i row is = absurd (grind (arith, is))
-marked-take m (r ∷ rs) zero row is = ap (path_if m) (some_same is)
-marked-take m (r ∷ rs) (suc i) row is = by (has_mark m r) (marked-take m rs i row is)
-  where
-    by : (b : Bool) → marked m (take (suc i) rs) ≡ marked m (take i rs) ++ path_if m row
-        → cond b (r.path ∷ marked m (take (suc i) rs)) (marked m (take (suc i) rs)) ≡ cond b (r.path ∷ marked m (take i rs)) (marked m (take i rs)) ++ path_if m row
-    by true ih = ap (λ fs. r.path ∷ fs) ih
-    by false ih = ih
 
 pub first_marked-all : (m : Mark) (rows : List Row) → nat_eq (first_marked m rows) (length rows) ≡ is_empty (marked m rows)
 first_marked-all m [] = refl

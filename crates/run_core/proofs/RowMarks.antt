@@ -12,7 +12,7 @@ use Rattle.lsp_docs.proofs.PathLemmas.{same_path, self_path}
 use Rattle.run_core.specs.declared.row.Row.{Row}
 use Rattle.run_core.specs.declared.mark.Mark.{Mark}
 use Rattle.run_core.specs.declared.mark.Mark.TheVariants.{Present, Todo, Owed, Edited}
-use Rattle.run_core.specs.Rows.{has_mark, marked, with_list, lists_shown, IsBeforeRows, IsOrdered, new_row, edited_row, after_edited, built_row, after_built, list_after, worked_row, after_worked}
+use Rattle.run_core.specs.Rows.{has_mark, marked, with_list, lists_shown, IsBeforeRows, IsOrdered, new_row, edited_row, after_edited, built_row, after_built, worked_row, after_worked}
 
 -- ---- two and three paths
 

@@ -2,6 +2,7 @@
 use Rattle.std.specs.Prelude.{◌≡◌, ◌≢◌, ◌⊎◌, ℕ, ◌+◌, ◌-◌, ◌^◌, min, Bool, true, false, not, ◌&&◌, List, [], map, Option, Some, None, unwrap_or, IsTrue, IsFalse, if◌then◌else◌}
 use Rattle.std.specs.Option.{option_map}
 use Rattle.srb_check.specs.Checks.{fresh}
+use Rattle.srb_check.specs.Jobs.{IsJobOf, Known}
 use Rattle.srb_terms.specs.Projects.{bytes_at}
 use Rattle.srb_terms.specs.declared.diag.Diag.{Diag}
 use Rattle.lsp_msg.specs.declared.id.Id.{Id}
@@ -103,11 +104,13 @@ state_of documents phase rows epoch stale seen owing ended = record {
 }
 
 -- What always holds of a core.
-pub record IsCore (documents : Documents) (stale : Bool) (rows : List Row) : Type 0 where
+pub record IsCore (documents : Documents) (stale : Bool) (rows : List Row) (job : Known) : Type 0 where
   -- the rows know which files the project has
   pub paths : marked Present rows ≡ paths_of documents.project
   -- where nothing is stale each owed file is one to be worked on
   pub asked : stale ≡ false → OwedAreAsked rows
+  -- where nothing is stale and some file is to be worked on, the job is that of the project as it is now
+  pub built : stale ≡ false → IsFalse (is_empty (marked Todo rows)) → IsJobOf documents.project job
 
 -- The list found in a row's file has to be written: the file is owed, or it isn't the list written last.
 abbrev pub IsDue : Row → List Diag → Bool → Type 0

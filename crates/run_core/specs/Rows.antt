@@ -20,10 +20,6 @@ abbrev pub marked : Mark → List Row → List Path
 marked m [] = []
 marked m (r ∷ rs) = if has_mark m r then r.path ∷ marked m rs else marked m rs
 
--- the path of the row, if it has the mark
-abbrev pub path_if : Mark → Row → List Path
-path_if m r = if has_mark m r then r.path ∷ [] else []
-
 -- the index of the first row that has the mark, or else the number of rows
 abbrev pub first_marked : Mark → List Row → ℕ
 first_marked m [] = 0

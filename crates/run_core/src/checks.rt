@@ -1,8 +1,6 @@
-//! The check of one file, and what lands of it.
+//! What lands where a file was checked.
 
-ghost use Rattle.std.specs.Prelude.{◌≡◌, ◌+◌, ◌-◌, ◌^◌, ◌↔◌, [], min, unwrap_or, None, Some, IsTrue, IfOk, OnOk, if◌then◌else◌};
-ghost use Rattle.std.specs.Option.{option_copied};
-ghost use Rattle.srb_check.specs.Checks.{fresh_of};
+ghost use Rattle.std.specs.Prelude.{◌≡◌, ◌+◌, ◌-◌, ◌^◌, ◌↔◌, [], min, unwrap_or, None, Some, IsTrue, IfOk, if◌then◌else◌};
 ghost use Rattle.run_core.specs.Cores.{IsDue, landed_by};
 
 use crate::landed::Landed;
@@ -10,31 +8,8 @@ use crate::row::Row;
 use lsp_docs::Docs;
 use lsp_msg::Out;
 use run_watch::Step;
-use srb_check::{check_file, load};
-use srb_terms::{Diag, Items, Name, NoMemory, Steps, World};
+use srb_terms::{Diag, Items, Name, NoMemory};
 use std::alloc::Global;
-use std::sync::ledger::Ledger;
-
-/// The errors of a file with these bytes, or of no file, as a fresh check finds them. It counts one step.
-pub fn fresh_list<L: Ledger>(
-    alloc: Global,
-    bytes: Option<&[u8]>,
-    steps: &mut Steps<L>,
-) -> Result<Items<Diag>, NoMemory>
-    ensures list { IfOk result (λ list. list ≡ fresh_of (option_copied bytes.entry)) }
-    ensures counted { OnOk result (steps.new ≡ steps.old + 1) }
-{
-    match bytes {
-        Some(bytes) => {
-            let file = load(alloc, bytes)?;
-            Ok(Items::from_vec(check_file(alloc, &World::new(alloc), &file, steps)?))
-        }
-        None => {
-            steps.count();
-            Ok(Items::new(alloc))
-        }
-    }
-}
 
 fn is_same_list(one: &[Diag], other: &[Diag]) -> bool
     ensures { IsTrue result ↔ (one.now ≡ other.now) }

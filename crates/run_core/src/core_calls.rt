@@ -4,16 +4,17 @@ ghost use Rattle.std.specs.Prelude.{◌≡◌, ◌+◌, ◌<◌, ◌≤◌, true
 ghost use Rattle.std.specs.Option.{option_copied};
 ghost use Rattle.lsp_docs.specs.Documents.{MOST_FILES, applied};
 ghost use Rattle.srb_text.specs.Limits.{MOST_BYTES};
-ghost use Rattle.lsp_docs.specs.Projects.{paths_of, total_bytes};
+ghost use Rattle.lsp_docs.specs.Projects.{total_bytes};
 ghost use Rattle.lsp_docs.specs.Uris.{is_empty};
 ghost use Rattle.run_watch.specs.declared.inp.Inp.TheVariants as inp;
 ghost use Rattle.run_watch.specs.declared.step.Step.TheVariants.{Take, Look, Build, Idle};
 ghost use Rattle.run_core.specs.Cores.{Lands, Makes, IsNextOwn, checks_after, end_of, ended_by, has_own};
-ghost use Rattle.run_core.specs.Machine.{is_at_rest, looked, opening, project_of};
+ghost use Rattle.run_core.specs.Machine.{is_at_rest, looked, opening};
 ghost use Rattle.run_core.specs.Sessions.{Waiting, Serving};
 
 use crate::answers::{closing_answer, log_of, reason_of, serving_answer, waiting_answer};
-use crate::checks::{fresh_list, is_due, landed_of, list_if, with_check};
+use crate::builds::job_of;
+use crate::checks::{is_due, landed_of, list_if, with_check};
 use crate::landed::Landed;
 use crate::phase::Phase;
 use crate::rows::{Rows, next_row};
@@ -21,18 +22,19 @@ use lsp_docs::Docs;
 use lsp_msg::{Id, Msg, Out};
 use run_watch::{EndCause, Inp};
 use srb_check::Job;
-use srb_terms::{Name, NoMemory, Project, Steps, World};
+use srb_terms::{Name, NoMemory, Project, Steps};
 use std::alloc::{AllocError, Global};
 use std::marker::Model;
 use std::sync::ledger::Ledger;
 
-/// The core of a session: its documents, what is to be worked on, and what was written last of each file. A contract sees
-/// its `Account`: the state of the machine, and a count.
+/// The core of a session: its documents, the project as it was built last, what is to be worked on, and what was written
+/// last of each file. A contract sees its `Account`: the state of the machine, and a count.
 #[derive(Drop)]
 pub struct Core {
     docs: Docs,
     phase: Phase,
     rows: Rows,
+    job: Job,
     epoch: u64,
     stale: bool,
     seen: bool,
@@ -48,7 +50,7 @@ impl Model for Core {
 
     ghost view = { λ c. record { state = state_of c.docs c.phase c.rows.list c.epoch c.stale c.seen c.owing c.ended; own_checks = c.own_checks } };
 
-    ghost invariant = { λ c. IsCore c.docs c.stale c.rows.list };
+    ghost invariant = { λ c. IsCore c.docs c.stale c.rows.list c.job };
 }
 
 impl Core {
@@ -66,6 +68,7 @@ impl Core {
             docs,
             phase: Phase::Waiting,
             rows,
+            job: Job::empty(alloc),
             epoch: 0,
             stale: false,
             seen: false,
@@ -195,25 +198,23 @@ impl Core {
         self.seen = true;
     }
 
-    /// Builds the symbol table of the project as it is now. After an error the core is as it was.
-    pub fn build(&mut self, alloc: Global) -> Result<Job, NoMemory>
+    /// Loads the files of the project as it is now, and builds its symbol table. What was loaded of a file whose text is the
+    /// same is kept. After an error the core is as it was.
+    pub fn build(&mut self, alloc: Global) -> Result<(), NoMemory>
         requires looked { IsTrue (looked self.old.state) }
         requires stale { IsTrue self.old.state.stale }
         ensures makes { OnOk result (Makes self.old.state self.new.state Build None) }
         ensures looked { OnOk result (IsTrue (looked self.new.state)) }
         ensures built { OnOk result (IsFalse self.new.state.stale) }
         ensures ended { self.new.state.ended ≡ self.old.state.ended }
-        ensures job { IfOk result (λ job. job.paths ≡ paths_of (project_of self.old.state)) }
         ensures checks { self.new.own_checks ≡ self.old.own_checks }
         ensures err { OnErr result (self.new ≡ self.old) }
     {
-        let paths = self.rows.present_paths(alloc)?;
+        let job = job_of(alloc, &self.docs, &self.job)?;
         self.rows.build();
         self.stale = false;
-        Ok(Job {
-            world: World::new(alloc),
-            paths,
-        })
+        self.job = job;
+        Ok(())
     }
 
     /// The least path in byte order that may be worked on. `None` exactly where there is none.
@@ -251,7 +252,7 @@ impl Core {
         let index = next_row(&self.rows);
         let file = self.rows.row(index);
         let owed = file.owed;
-        let list = fresh_list(alloc, self.docs.bytes(&file.path), steps)?;
+        let list = self.job.check(alloc, &file.path, steps)?;
         let shown = is_due(file, list.as_slice());
         let landed = landed_of(
             alloc,

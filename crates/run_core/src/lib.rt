@@ -13,6 +13,7 @@
 #![tactic(auto)]
 
 mod answers;
+mod builds;
 mod checks;
 mod core_calls;
 mod landed;

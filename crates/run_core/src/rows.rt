@@ -1,5 +1,5 @@
-ghost use Rattle.std.specs.Prelude.{◌≡◌, ◌<◌, ◌≤◌, ◌++◌, length, vec_len, vec_capacity, slice_get, Some, IsTrue, OnOk, IfOk};
-ghost use Rattle.run_core.specs.Rows.{IsOrdered, after_built, after_edited, after_worked, built_row, edited_row, first_marked, has_mark, is_path_of, marked, new_row, next_index, opening_row, opening_rows, path_if, place_of, worked_row};
+ghost use Rattle.std.specs.Prelude.{◌≡◌, ◌<◌, ◌≤◌, length, vec_len, vec_capacity, slice_get, Some, IsTrue, OnOk, IfOk};
+ghost use Rattle.run_core.specs.Rows.{IsOrdered, after_built, after_edited, after_worked, built_row, edited_row, first_marked, has_mark, is_path_of, marked, new_row, next_index, opening_row, opening_rows, place_of, worked_row};
 ghost use Rattle.run_core.specs.declared.row.Row.{Row};
 ghost use Rattle.run_core.specs.declared.mark.Mark.TheVariants as mark;
 
@@ -73,13 +73,6 @@ impl Rows {
         self.first_owed
     }
 
-    /// The paths of the files that the project has.
-    pub fn present_paths(&self, alloc: Global) -> Result<Items<Name>, NoMemory>
-        ensures { IfOk result (λ paths. paths ≡ marked mark.Present self.now.list) }
-    {
-        present_in(alloc, self.list.as_slice())
-    }
-
     /// Makes room for one more row.
     pub fn reserve(&mut self) -> Result<(), NoMemory>
         ensures list { self.new.list ≡ self.old.list }
@@ -149,26 +142,6 @@ pub fn next_row(rows: &Rows) -> usize
     } else {
         rows.first_todo()
     }
-}
-
-fn present_in(alloc: Global, rows: &[Row]) -> Result<Items<Name>, NoMemory>
-    ensures { IfOk result (λ paths. paths ≡ marked mark.Present rows.now) }
-{
-    let mut paths = Items::new(alloc);
-    'rows: for row in rows {
-        push_present(&mut paths, row)?;
-    }
-    Ok(paths)
-}
-
-// Adds the path of the row if the project has a file there.
-fn push_present(paths: &mut Items<Name>, row: &Row) -> Result<(), NoMemory>
-    ensures { OnOk result (paths.new ≡ paths.old ++ path_if mark.Present row.now) }
-{
-    if row.present {
-        paths.push(row.path.copied()?)?;
-    }
-    Ok(())
 }
 
 // The row of a path that nothing is known of.

@@ -57,11 +57,11 @@ fn say(rt: &impl Abort, alloc: Global, core: &mut Core, inp: Inp) -> Result<Opti
     core.take(alloc, inp)
 }
 
-fn build(rt: &impl Abort, alloc: Global, core: &mut Core) -> Result<usize, NoMemory> {
+fn build(rt: &impl Abort, alloc: Global, core: &mut Core) -> Result<(), NoMemory> {
     core.looked();
     assert!(rt; core.is_stale());
     assert!(rt; core.next_own().is_none());
-    Ok(core.build(alloc)?.paths.len())
+    core.build(alloc)
 }
 
 fn check<L: Ledger>(
@@ -126,7 +126,7 @@ fn first_round<L: Ledger>(
     core: &mut Core,
     steps: &mut Steps<L>,
 ) -> Result<(), NoMemory> {
-    assert!(rt; build(rt, alloc, core)? == 3);
+    build(rt, alloc, core)?;
     let a = check(rt, alloc, core, steps)?;
     assert!(rt; is_shown(&a, "a.rb", "file:///p/a.rb", 0, "type is NilClass"));
     assert!(rt; !core.rest());
@@ -141,7 +141,7 @@ fn second_round<L: Ledger>(
     steps: &mut Steps<L>,
 ) -> Result<(), NoMemory> {
     assert!(rt; core.owes());
-    assert!(rt; build(rt, alloc, core)? == 3);
+    build(rt, alloc, core)?;
     let c = check(rt, alloc, core, steps)?;
     assert!(rt; is_shown(&c, "c.rb", "file:///p/c.rb", 1, "type is Integer"));
     let a = check(rt, alloc, core, steps)?;
@@ -202,7 +202,7 @@ fn each_time_of_a_session_has_its_answers(rt: HostRuntime) -> Result<(), NoMemor
     let late = say(&rt, alloc, &mut core, asked(3))?;
     assert!(rt; is_error(&late, 3, INVALID_REQUEST));
     assert!(rt; core.is_looked());
-    assert!(rt; build(&rt, alloc, &mut core)? == 0);
+    build(&rt, alloc, &mut core)?;
     assert!(rt; core.is_looked());
     assert!(rt; core.rest());
     let reply = core.idle(alloc)?;
@@ -232,7 +232,7 @@ fn a_refused_change_is_logged_and_is_no_edit(rt: HostRuntime) -> Result<(), NoMe
     let alloc = rt.alloc();
     let mut core = Core::new(alloc, Project::new(alloc))?;
     let _begun = say(&rt, alloc, &mut core, initialize(alloc)?)?;
-    assert!(rt; build(&rt, alloc, &mut core)? == 0);
+    build(&rt, alloc, &mut core)?;
     let log = say(&rt, alloc, &mut core, change(alloc, "file:///p/z.rb")?)?;
     assert!(rt; is_log(&log, "textDocument/didChange", Reason::NotOpen));
     assert!(rt; core.rest());

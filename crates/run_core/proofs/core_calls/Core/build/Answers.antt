@@ -7,7 +7,9 @@ use Rattle.run_core.proofs.CoreSteps.{built_core, build_makes, both}
 use Rattle.run_core.proofs.core_calls.Core.build.Goals as goal
 
 pub invariant_of-self : goal.invariant_of-self
-invariant_of-self c = subst (IsCore c.self.inside.docs false) (sym c.build.ensures.list) (built_core _ _ _ c.self.invariant)
+invariant_of-self c =
+    subst (λ rows. IsCore c.self.inside.docs false rows c.in_ok-job.job) (sym c.build.ensures.list)
+    (built_core _ _ _ _ _ c.self.invariant c.in_ok-job.ensures)
 
 pub returns-clause-makes : goal.returns-clause-makes
 returns-clause-makes c =

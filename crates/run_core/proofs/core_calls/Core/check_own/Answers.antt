@@ -1,13 +1,13 @@
 use Rattle.std.proofs.Common.{◌≡◌, ◌+◌, ◌-◌, ◌^◌, ◌<◌, true, false, cond, not, length, min, sym, ap, ◌∙◌, subst, arith}
 use Rattle.std.specs.Prelude.{Some, None}
 use Rattle.std.specs.List.{slice_get}
-use Rattle.srb_check.specs.Checks.{fresh_of}
-use Rattle.lsp_docs.specs.Uris.{is_empty}
-use Rattle.run_core.specs.declared.mark.Mark.TheVariants.{Owed, Todo}
-use Rattle.run_core.specs.Rows.{after_worked, marked, next_index}
-use Rattle.run_core.specs.Cores.{Account, IsCore, IsDue, Lands, checks_after, has_own, landed_by, state_of}
+use Rattle.srb_terms.specs.Projects.{IsProject}
+use Rattle.run_core.specs.declared.mark.Mark.TheVariants.{Todo}
+use Rattle.run_core.specs.Rows.{after_worked, marked}
+use Rattle.run_core.specs.Cores.{Account, IsDue, Lands, checks_after, has_own, landed_by, state_of}
 use Rattle.run_core.proofs.NextFile.{owed_next}
-use Rattle.run_core.proofs.CoreSteps.{has_own-within, worked_core, worked_fewer, worked_lands}
+use Rattle.run_core.proofs.CoreSteps.{has_own-within, own_built, worked_core, worked_fewer, worked_lands}
+use Rattle.run_core.proofs.Loading.{rows_project}
 use Rattle.run_core.proofs.core_calls.Core.check_own.Goals as goal
 
 pub row-file-requires : goal.row-file-requires
@@ -24,7 +24,9 @@ work-requires g c =
 
 pub invariant_of-self : goal.invariant_of-self
 invariant_of-self g c =
-    worked_core c.self.inside.docs c.self.inside.stale c.self.inside.rows.list c.work.new.self.list c.row-file.result.now.path c.list_if.result c.self.invariant
+    let i = c.self.inside in
+    let built = own_built i.docs i.phase i.rows.list i.epoch i.stale i.seen i.owing i.ended c.self.invariant (ap (λ (a : Account). has_own a.state) c.self.view_is ∙ c.requires) in
+    worked_core i.docs i.stale i.rows.list c.work.new.self.list i.job c.row-file.result.now.path c.list_if.result c.self.invariant built
     (c.work.ensures.list c.row-file.result.now c.row-file.ensures)
 
 pub returns-clause-lands : goal.returns-clause-lands
@@ -38,8 +40,10 @@ returns-clause-lands g c =
     let landed : c.in_ok-landed.landed ≡ landed_by i.docs row.path i.epoch list c.is_due-shown.result =
     c.in_ok-landed.ensures ∙ ap (λ l. landed_by i.docs row.path i.epoch l c.is_due-shown.result) c.as_slice-2.ensures in
     let own = ap (λ (a : Account). has_own a.state) c.self.view_is ∙ c.requires in
+    let built = own_built i.docs i.phase i.rows.list i.epoch i.stale i.seen i.owing i.ended c.self.invariant own in
+    let ordered : IsProject i.docs.project = rows_project i.rows.list i.docs.project c.work.ensures.ordered c.self.invariant.paths in
     let lands = worked_lands i.docs i.phase i.rows.list c.work.new.self.list i.epoch i.stale i.seen i.owing i.ended c.next_row-index.result row list c.is_due-shown.result
-    c.self.invariant c.work.ensures.ordered own c.next_row-index.ensures c.row-file.ensures (c.in_ok-list.ensures.list ∙ ap fresh_of c.bytes.ensures.bytes) due left in
+    c.self.invariant c.work.ensures.ordered own c.next_row-index.ensures c.row-file.ensures (c.in_ok-list.ensures.list i.docs.project ordered built) due left in
     subst (λ (a : Account). Lands a.state (state_of i.docs i.phase c.work.new.self.list i.epoch i.stale false i.owing i.ended) c.in_ok-landed.landed) c.self.view_is
     (subst (Lands (state_of i.docs i.phase i.rows.list i.epoch i.stale i.seen i.owing i.ended) (state_of i.docs i.phase c.work.new.self.list i.epoch i.stale false i.owing i.ended)) (sym landed) lands)
 

@@ -1,5 +1,6 @@
-use Rattle.std.proofs.Common.{false, sym, ap, ◌∙◌, subst}
+use Rattle.std.proofs.Common.{false, sym, ◌∙◌, subst}
 use Rattle.std.specs.Prelude.{None}
+use Rattle.lsp_docs.specs.Documents.{no_documents}
 use Rattle.run_core.specs.Sessions.{Waiting}
 use Rattle.run_core.specs.Cores.{IsCore, state_of}
 use Rattle.run_core.proofs.CoreSteps.{opening_core, opening_state}
@@ -7,8 +8,8 @@ use Rattle.run_core.proofs.core_calls.Core.new.Goals as goal
 
 pub invariant_of-result : goal.invariant_of-result
 invariant_of-result c =
-    subst (λ d. IsCore d false c.in_ok-rows.rows.list) (sym c.in_ok-docs.ensures)
-    (subst (IsCore _ false) (sym c.in_ok-rows.ensures) (opening_core c.args.files))
+    subst (λ d. IsCore d false c.in_ok-rows.rows.list c.empty.result) (sym c.in_ok-docs.ensures)
+    (subst (λ rows. IsCore (no_documents c.args.files) false rows c.empty.result) (sym c.in_ok-rows.ensures) (opening_core c.args.files c.empty.result))
 
 pub returns-clause-state : goal.returns-clause-state
 returns-clause-state c = (λ i. state_of (c.in_ok-docs.ensures i) Waiting (c.in_ok-rows.ensures i) 0 false false None None) ∙ opening_state c.args.files

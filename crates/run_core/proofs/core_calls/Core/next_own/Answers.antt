@@ -1,4 +1,4 @@
-use Rattle.std.proofs.Common.{◌≡◌, ◌≤◌, true, false, length, not, sym, ap, ◌∙◌, subst, ◌&&◌, arith}
+use Rattle.std.proofs.Common.{◌≡◌, ◌≤◌, true, length, not, sym, ap, ◌∙◌, subst, ◌&&◌}
 use Rattle.std.specs.Prelude.{Option, Some, None, is_some}
 use Rattle.std.specs.List.{slice_get}
 use Rattle.std.specs.Option.{option_map}

@@ -11,7 +11,7 @@ use Rattle.run_core.proofs.core_calls.Core.take_document.Goals as goal
 pub invariant_of-self-in-Ok : goal.invariant_of-self-in-Ok
 invariant_of-self-in-Ok c =
     let present : c.is_some-present.result ≡ is_some (bytes_at c.in-Ok.applied.path c.apply.new.self.project) = c.is_some-present.ensures ∙ is_some-copied c.bytes.result ∙ ap is_some c.bytes.ensures.bytes in
-    edit_core c.self.inside.docs c.apply.new.self c.self.inside.rows.list c.edit.new.self.list c.args.msg.now c.in-Ok.applied
+    edit_core c.self.inside.docs c.apply.new.self c.self.inside.rows.list c.edit.new.self.list c.self.inside.job c.args.msg.now c.in-Ok.applied
     c.in-Ok.ensures.accepted c.if-not-applied.false (subst IsOrdered c.reserve.ensures.list c.edit.ensures.ordered) c.self.invariant.paths
     (c.edit.ensures.list ∙ ap (after_edited c.in-Ok.applied.path c.is_some-present.result) c.reserve.ensures.list ∙ ap (λ b. after_edited c.in-Ok.applied.path b c.self.inside.rows.list) present)
 

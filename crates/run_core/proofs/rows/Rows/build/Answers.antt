@@ -1,4 +1,4 @@
-use Rattle.std.proofs.Common.{◌≡◌, ◌++◌, List, length, take, drop, sym, ap, ◌∙◌, subst}
+use Rattle.std.proofs.Common.{◌++◌, length, take, drop, sym, ap, ◌∙◌, subst}
 use Rattle.std.proofs.Math.Seq.{take-append_seam}
 use Rattle.run_core.specs.Rows.{IsOrdered, after_built, first_marked}
 use Rattle.run_core.specs.declared.mark.Mark.TheVariants.{Todo, Owed}

@@ -1,9 +1,7 @@
-use Rattle.std.proofs.Common.{◌≡◌, ◌<◌, List, length, refl, sym, ap, ◌∙◌, subst, arith}
-use Rattle.std.specs.Prelude.{Some}
+use Rattle.std.proofs.Common.{◌<◌, length, refl, sym, ap, ◌∙◌, subst, arith}
 use Rattle.std.specs.List.{slice_get}
 use Rattle.std.proofs.lemmas.Option.{slice_get_read}
 use Rattle.run_core.specs.Rows.{IsOrdered, RowList, first_marked, after_worked}
-use Rattle.run_core.specs.declared.row.Row.{Row}
 use Rattle.run_core.specs.declared.mark.Mark.TheVariants.{Todo, Owed}
 use Rattle.run_core.proofs.RowMarks.{worked-ordered}
 use Rattle.run_core.proofs.RowIndexes.{worked_set, first_marked-worked}
