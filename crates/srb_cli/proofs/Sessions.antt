@@ -5,6 +5,7 @@ use Rattle.std.specs.Prelude.{Option, is_some, unwrap_or}
 use Rattle.std.specs.Option.{option_map}
 use Rattle.srb_terms.specs.declared.cause.Cause.{Cause}
 use Rattle.srb_terms.specs.Projects.{IsProject}
+use Rattle.srb_check.specs.Symbols.{project_facts}
 use Rattle.srb_check.specs.Checks.{fresh_of}
 use Rattle.lsp_msg.specs.declared.msg.Msg.{Msg as Message}
 use Rattle.lsp_docs.specs.Projects.{Project}
@@ -43,7 +44,7 @@ use Rattle.srb_cli.proofs.Rounds.{then_no_step, did_then_quiet}
 -- what is checked is a language
 pub is_language : IsLanguage checked_language
 is_language = record {
-  absent = λ p f ordered gone. ap fresh_of gone;
+  absent = λ p f ordered gone. ap (fresh_of (project_facts p)) gone;
   kept = λ p e f ordered keeps differs. absurd (let wrong : false ≡ true = keeps in cc);
 }
 

@@ -94,6 +94,34 @@ fn reports_of_folders(rt: HostRuntime) -> Result<(), Fail> {
     Ok(())
 }
 
+/// Files that declare what others name, and whose errors come of what others declare.
+#[test]
+fn reports_of_files_that_rest_on_one_another(rt: HostRuntime) -> Result<(), Fail> {
+    let alloc = rt.alloc();
+    let found: [(&str, &[u8]); 2] = [("a.rb", b"A\n"), ("b.rb", b"class A\nend\n")];
+    let module: [(&str, &[u8]); 2] = [
+        ("a.rb", b"module M\nend\n"),
+        ("b.rb", b"class C < M\nend\n"),
+    ];
+    let class: [(&str, &[u8]); 2] = [("a.rb", b"class C\nend\n"), ("b.rb", b"module C\nend\n")];
+    for (files, report) in [
+        (found.as_slice(), b"".as_slice()),
+        (
+            module.as_slice(),
+            b"b.rb:1:11: 9007 M cannot be inherited\n".as_slice(),
+        ),
+        (
+            class.as_slice(),
+            b"b.rb:1:8: 9004 C is already a class\n".as_slice(),
+        ),
+    ] {
+        let (status, held) = checked(&rt, alloc, folder_of(alloc, files, &[])?)?;
+        assert_eq!(rt; held.as_slice(), report);
+        assert_eq!(rt; status, if report.is_empty() { 0 } else { 1 });
+    }
+    Ok(())
+}
+
 #[test]
 fn a_call_on_the_files_that_fails(rt: HostRuntime) -> Result<(), Fail> {
     let alloc = rt.alloc();

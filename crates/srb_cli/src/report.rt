@@ -1,33 +1,62 @@
 //! The report of files that are checked, and how it is written.
 
-ghost use Rattle.std.specs.Prelude.{◌≡◌, ◌-◌, ◌^◌, ◌<◌, ◌++◌, IfOk, OnOk};
+ghost use Rattle.std.specs.Prelude.{◌≡◌, ◌-◌, ◌^◌, ◌<◌, ◌++◌, List, length, slice_get, Some, IfOk, OnOk};
+ghost use Rattle.srb_terms.specs.Projects.{File};
+ghost use Rattle.srb_check.specs.Jobs.{AreLoaded, IsJobOf};
+ghost use Rattle.srb_check.specs.Symbols.{project_facts};
 ghost use Rattle.srb_check.specs.Checks.{errors_of};
 ghost use Rattle.srb_check.specs.Reports.{file_report, report_of};
 ghost use Rattle.srb_cli.specs.Ends.{Reported};
 
-use srb_check::{check_file, load, push_report};
+use srb_check::{Files, Job, push_report};
 use srb_io::{Sink, write_all};
-use srb_terms::{Cause, ProjectFile, Steps, World};
+use srb_terms::{Cause, ProjectFile, Steps};
 use std::alloc::{AllocError, Global};
 use std::marker::Brand;
 use std::sync::ledger::{Blank, Ledger};
 
-/// Checks a file, and adds the lines of its errors to a report.
+/// The files, each loaded.
+fn loaded(alloc: Global, files: &[ProjectFile]) -> Result<Files, AllocError>
+    ensures { IfOk result (AreLoaded files.now) }
+{
+    let none = Job::empty(alloc);
+    let mut loaded = Files::new(alloc);
+    'files: for file in files {
+        loaded.add(alloc, file.path().copied()?, file.bytes(), &none)?;
+    }
+    Ok(loaded)
+}
+
+/// The files as one project, with its symbol table.
+fn job_of(alloc: Global, files: &[ProjectFile]) -> Result<Job, AllocError>
+    ensures { IfOk result (IsJobOf files.now) }
+{
+    loaded(alloc, files)?.job(alloc)
+}
+
+/// Checks the file at an index of a project, and adds the lines of its errors to a report.
 fn push_file<L: Ledger>(
     alloc: Global,
     report: &mut Vec<u8>,
-    path: &str,
-    bytes: &[u8],
+    job: &Job,
+    index: usize,
+    file: &ProjectFile,
     steps: &mut Steps<L>,
 ) -> Result<(), AllocError>
-    ensures { OnOk result (report.new.items ≡ report.old.items ++ file_report path.now bytes.now (errors_of bytes.now)) }
+    ensures { (project : List File) → IsJobOf project job.now → slice_get project index ≡ Some file.now
+        → OnOk result (report.new.items ≡ report.old.items ++ file_report file.now.0 file.now.1 (errors_of (project_facts project) file.now.1)) }
 {
-    let file = load(alloc, bytes)?;
-    let errors = check_file(alloc, &World::new(alloc), &file, steps)?;
-    push_report(report, path, bytes, errors.as_slice())
+    let errors = job.check_at(alloc, index, steps)?;
+    push_report(
+        report,
+        file.path().as_str(),
+        file.bytes(),
+        errors.as_slice(),
+    )
 }
 
-/// The report of files, by a check whose steps are counted on this blank. One file after the other is loaded and checked.
+/// The report of files, by a check whose steps are counted on this blank. The symbol table is built once, and then one file
+/// after the other is checked.
 fn report_by<L: Ledger>(
     alloc: Global,
     files: &[ProjectFile],
@@ -39,10 +68,10 @@ fn report_by<L: Ledger>(
     ensures { IfOk result (λ r. r.items ≡ report_of files.now) }
 {
     let mut steps: Steps<L> = Steps::new(blank);
+    let job = job_of(alloc, files)?;
     let mut report = Vec::new(alloc);
-    'files: for file in files {
-        let path = file.path().as_str();
-        push_file(alloc, &mut report, path, file.bytes(), &mut steps)?;
+    'files: for index in 0..files.len() {
+        push_file(alloc, &mut report, &job, index, &files[index], &mut steps)?;
     }
     Ok(report)
 }

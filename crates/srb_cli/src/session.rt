@@ -120,7 +120,7 @@ fn prepare(alloc: Global, core: &mut Core) -> Result<(), NoMemory>
 {
     look(core);
     if core.is_stale() {
-        let _job = core.build(alloc)?;
+        core.build(alloc)?;
     }
     Ok(())
 }

@@ -218,6 +218,75 @@ fn a_blank_in_a_path(rt: HostRuntime) -> Result<(), Fail> {
     Ok(())
 }
 
+/// A list of no errors of `a.rb` or `b.rb`, and the one error of `b.rb` where `A` is nothing.
+const NONE_IN_A_1: &str =
+    r#"{"jsonrpc":"2.0","method":"textDocument/publishDiagnostics","params":{"diagnostics":[],"epoch":1,"uri":"file:///p/a.rb"}}"#;
+
+const NONE_IN_A_2: &str =
+    r#"{"jsonrpc":"2.0","method":"textDocument/publishDiagnostics","params":{"diagnostics":[],"epoch":2,"uri":"file:///p/a.rb"}}"#;
+
+const NONE_IN_A_3: &str =
+    r#"{"jsonrpc":"2.0","method":"textDocument/publishDiagnostics","params":{"diagnostics":[],"epoch":3,"uri":"file:///p/a.rb"}}"#;
+
+const NONE_IN_B_2: &str =
+    r#"{"jsonrpc":"2.0","method":"textDocument/publishDiagnostics","params":{"diagnostics":[],"epoch":2,"uri":"file:///p/b.rb"}}"#;
+
+const LOST_IN_B_1: &str =
+    r#"{"jsonrpc":"2.0","method":"textDocument/publishDiagnostics","params":{"diagnostics":[{"code":5002,"message":"constant A not found","range":{"end":{"character":1,"line":0},"start":{"character":0,"line":0}},"severity":1,"source":"srb"}],"epoch":1,"uri":"file:///p/b.rb"}}"#;
+
+const LOST_IN_B_3: &str =
+    r#"{"jsonrpc":"2.0","method":"textDocument/publishDiagnostics","params":{"diagnostics":[{"code":5002,"message":"constant A not found","range":{"end":{"character":1,"line":0},"start":{"character":0,"line":0}},"severity":1,"source":"srb"}],"epoch":3,"uri":"file:///p/b.rb"}}"#;
+
+/// A file that names the class of another has an error once that class is gone, though no message names this file.
+#[test]
+fn a_class_that_another_file_names_is_taken_out(rt: HostRuntime) -> Result<(), Fail> {
+    let bodies = [
+        INITIALIZE,
+        r#"{"jsonrpc":"2.0","method":"textDocument/didOpen","params":{"textDocument":{"uri":"file:///p/a.rb","languageId":"ruby","version":1,"text":"class A\nend\n"}}}"#,
+        r#"{"jsonrpc":"2.0","method":"textDocument/didOpen","params":{"textDocument":{"uri":"file:///p/b.rb","languageId":"ruby","version":1,"text":"A\n"}}}"#,
+        r#"{"jsonrpc":"2.0","method":"textDocument/didChange","params":{"textDocument":{"uri":"file:///p/a.rb","version":2},"contentChanges":[{"text":""}]}}"#,
+        SHUTDOWN,
+        EXIT,
+    ];
+    let written = [
+        INITIALIZED,
+        NONE_IN_A_1,
+        NONE_IN_B_2,
+        NONE_IN_A_3,
+        LOST_IN_B_3,
+        NULL,
+    ];
+    assert!(rt; is_served(&rt, rt.alloc(), &[], &bodies, &written, 0)?);
+    Ok(())
+}
+
+/// The text that is opened of a file counts in place of the one in the folder, and once it is closed the latter counts again.
+#[test]
+fn a_class_that_another_file_names_comes_back(rt: HostRuntime) -> Result<(), Fail> {
+    let files = [
+        ("a.rb", "class A\nend\n"),
+        ("b.rb", "A\n"),
+        ("c.rb", "class C\nend\n"),
+    ];
+    let bodies = [
+        INITIALIZE,
+        r#"{"jsonrpc":"2.0","method":"textDocument/didOpen","params":{"textDocument":{"uri":"file:///p/a.rb","languageId":"ruby","version":1,"text":""}}}"#,
+        r#"{"jsonrpc":"2.0","method":"textDocument/didClose","params":{"textDocument":{"uri":"file:///p/a.rb"}}}"#,
+        SHUTDOWN,
+        EXIT,
+    ];
+    let written = [
+        INITIALIZED,
+        NONE_IN_A_1,
+        LOST_IN_B_1,
+        NONE_IN_A_2,
+        NONE_IN_B_2,
+        NULL,
+    ];
+    assert!(rt; is_served(&rt, rt.alloc(), &files, &bodies, &written, 0)?);
+    Ok(())
+}
+
 /// Ranges count UTF-16 units: the second change puts `1` in the place of what the first one left of a pair.
 #[test]
 fn changes_of_ranges(rt: HostRuntime) -> Result<(), Fail> {
