@@ -1,0 +1,7 @@
+module Priced
+  CURRENCY = "EUR"
+end
+
+class Item
+  include Priced
+end

@@ -1,0 +1,6 @@
+class Order < Priced
+  include Item
+
+  CURRENCY = Item::CURRENCY
+  RATE = Itm::RATE
+end
