@@ -1,7 +1,7 @@
 -- When a symbol table is that of some facts, and how a constant is looked up by what the table holds.
-use Rattle.std.specs.Prelude.{◌≡◌, ℕ, Bool, List, [], Option, None}
+use Rattle.std.specs.Prelude.{◌≡◌, ℕ, List, [], Option}
 use Rattle.std.specs.Option.{unwrap_or}
-use Rattle.srb_terms.specs.Worlds.{circular_at, extended_at, ivar_at, kind_at, lin_at, method_at, superclass_at, value_at, within_at}
+use Rattle.srb_terms.specs.Worlds.{circular_at, extended_at, kind_at, lin_at, superclass_at, within_at}
 use Rattle.srb_terms.specs.declared.fact.Fact.{Fact}
 use Rattle.srb_terms.specs.declared.world.World.{World}
 use Rattle.srb_rules.specs.declared.position.Position.{Position}
@@ -11,10 +11,9 @@ use Rattle.srb_rules.specs.Kinds.{kind_of, within_of}
 use Rattle.srb_rules.specs.Lookup.{looked_up}
 use Rattle.srb_rules.specs.Parents.{alone_by, extended_of, superclass_of}
 use Rattle.srb_rules.specs.Resolves.{lin_in}
-use Rattle.srb_rules.specs.Values.{value_type}
 
--- The table stands for the facts: each accessor answers what the facts say, and nothing exactly where they say nothing. No method and no
--- instance variable is told yet.
+-- The table stands for what the facts say of names: each accessor answers what they say, and nothing exactly where they say nothing. Of
+-- methods, of variables and of the types of constants it says nothing.
 pub record Stands (w : World) (fs : List Fact) : Type 0 where
   pub kinds : (c : List ℕ) → kind_at w c ≡ kind_of fs c
   pub names : (scope : Option (List ℕ)) (last : List ℕ) → within_at w scope last ≡ within_of fs scope last
@@ -22,9 +21,6 @@ pub record Stands (w : World) (fs : List Fact) : Type 0 where
   pub superclasses : (c : List ℕ) → superclass_at w c ≡ superclass_of fs c
   pub extends : (c : List ℕ) → extended_at w c ≡ extended_of fs c
   pub circles : (c d : List ℕ) → circular_at w c d ≡ circle_of fs c d
-  pub methods : (owner : List ℕ) (meta : Bool) (name : List ℕ) → method_at w owner meta name ≡ None
-  pub ivars : (owner : List ℕ) (meta : Bool) (name : List ℕ) → ivar_at w owner meta name ≡ None
-  pub values : (c : List ℕ) → value_at w c ≡ value_type fs c
 
 -- The ancestors that a constant is looked up in: by the table's linearizations, or without ancestors as a superclass or a mixin.
 abbrev pub ancestors_at : World → Position → List ℕ → List (List ℕ)

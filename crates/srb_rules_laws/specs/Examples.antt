@@ -11,9 +11,13 @@ use Rattle.srb_rules.specs.Conflicts.{conflicts_of}
 use Rattle.srb_rules.specs.Kinds.{kind_of, within_of}
 use Rattle.srb_rules.specs.Parents.{extended_of, superclass_of}
 use Rattle.srb_rules.specs.Resolves.{lin_in, resolves}
-use Rattle.srb_rules.specs.Values.{value_type}
+use Rattle.srb_rules.specs.Values.{Reads, value_type}
 
 -- ---- declarations
+
+-- a reading that takes each type that is written out for `T.untyped`; the examples hold none
+abbrev pub read_as_untyped : Reads
+read_as_untyped scope text = ty.Untyped
 
 abbrev pub class_fact : List ℕ → Fact
 class_fact name = Scope name kind.Class
@@ -104,7 +108,7 @@ FirstKindCounts =
     (kind_of TWO_KINDS (codes "C") ≡ Some kind.Class)
     × (conflicts_of TWO_KINDS (class_fact (codes "C") ∷ []) ≡ [])
     × (conflicts_of TWO_KINDS (module_fact (codes "C") ∷ Value (codes "C") [] (Literal (codes "Integer")) ∷ []) ≡ (0, 9004) ∷ (1, 9004) ∷ [])
-    × (value_type TWO_KINDS (codes "C") ≡ None)
+    × (value_type read_as_untyped TWO_KINDS (codes "C") ≡ None)
 
 -- `module C` and then `class C < String`
 abbrev pub LATE_CLASS : List Fact
@@ -199,10 +203,10 @@ ConstantsOfPaths =
 
 abbrev pub TypesOfConstants : Type 0
 TypesOfConstants =
-    (value_type CONSTANTS (codes "A::X") ≡ Some (ty.Class (codes "Integer")))
-    × (value_type CONSTANTS (codes "P::Z") ≡ Some (ty.Class (codes "Integer")))
-    × (value_type CONSTANTS (codes "A::C::Y") ≡ Some ty.Untyped)
-    × (value_type CONSTANTS (codes "A") ≡ None)
+    (value_type read_as_untyped CONSTANTS (codes "A::X") ≡ Some (ty.Class (codes "Integer")))
+    × (value_type read_as_untyped CONSTANTS (codes "P::Z") ≡ Some (ty.Class (codes "Integer")))
+    × (value_type read_as_untyped CONSTANTS (codes "A::C::Y") ≡ Some ty.Untyped)
+    × (value_type read_as_untyped CONSTANTS (codes "A") ≡ None)
 
 -- `class Object; X = 1; class D; end; end` and `X = "s"` at the root
 abbrev pub OBJECT_BODY : List Fact
