@@ -1,0 +1,4 @@
+pub mod Lineages
+pub mod Parts
+pub mod Comparing
+pub mod Shapes
