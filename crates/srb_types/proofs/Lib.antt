@@ -1,0 +1,5 @@
+pub mod Placing
+pub mod Filtering
+pub mod Meeting
+pub mod Naming
+pub mod Joining
