@@ -1,7 +1,8 @@
 ghost use Rattle.std.specs.Prelude.{◌≡◌, [], ◌∷◌, ◌++◌, IfOk, OnOk};
-ghost use Rattle.srb_builtin.specs.Rows.{with_row};
+ghost use Rattle.srb_builtin.specs.Rows.{facts_of_row};
 ghost use Rattle.srb_builtin.specs.Table.{declares, refers};
 
+use crate::methods::add_line;
 use srb_terms::{Fact, How, Items, Kind, Name, Names, NoMemory};
 use std::alloc::Global;
 
@@ -16,11 +17,13 @@ pub enum Row {
     Include(&'static str, &'static str),
     /// A module.
     Module(&'static str),
+    /// A class or module, and a line of its methods.
+    Methods(&'static str, &'static str),
 }
 
 /// Adds the facts of a row.
 pub fn add_row(alloc: Global, facts: &mut Items<Fact>, row: Row) -> Result<(), NoMemory>
-    ensures { OnOk result (facts.new ≡ with_row facts.old row) }
+    ensures { OnOk result (facts.new ≡ facts.old ++ facts_of_row row) }
 {
     match row {
         Row::Top(name) => add_scope(alloc, facts, name, Kind::Class),
@@ -33,6 +36,7 @@ pub fn add_row(alloc: Global, facts: &mut Items<Fact>, row: Row) -> Result<(), N
             add_parent(alloc, facts, class, scope, module, How::Include)
         }
         Row::Module(name) => add_scope(alloc, facts, name, Kind::Module),
+        Row::Methods(owner, line) => add_line(alloc, facts, owner, line),
     }
 }
 
