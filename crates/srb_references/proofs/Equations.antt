@@ -1,6 +1,6 @@
 -- What is read below a tree goes by its node.
-use Rattle.std.proofs.Common.{◌≡◌, ℕ, Bool, true, false, List, [], ◌∷◌, ◌++◌, map, Option, Some, None, refl, ap, sym, ◌∙◌, append_assoc, ◌<◌, length, arith}
-use Rattle.std.specs.List.{flat_map}
+use Rattle.std.proofs.Common.{◌≡◌, ℕ, Bool, true, false, ◌&&◌, if◌then◌else◌, bytes_eq, codes, List, [], ◌∷◌, ◌++◌, map, Option, Some, None, refl, ap, sym, ◌∙◌, append_assoc, ◌<◌, length, arith}
+use Rattle.std.specs.List.{flat_map, list_all}
 use Rattle.std.proofs.lemmas.List.{map-append, append-nil}
 use Rattle.srb_terms.specs.declared.param_kind.ParamKind.{ParamKind}
 use Rattle.srb_terms.specs.declared.span.Span.{Span}
@@ -13,6 +13,7 @@ use Rattle.rb_tree.specs.declared.syntax.Node.TheFolds.{map-Node, para-Node, par
 use Rattle.rb_tree.specs.declared.syntax.Argument.{Argument}
 use Rattle.rb_tree.specs.declared.syntax.Argument.TheVariants as argument
 use Rattle.rb_tree.specs.declared.syntax.Block.{Block}
+use Rattle.rb_tree.specs.declared.syntax.Dot.TheVariants as dot
 use Rattle.rb_tree.specs.declared.syntax.Suffix.{Suffix}
 use Rattle.rb_tree.specs.declared.syntax.Suffix.TheVariants as suffix
 use Rattle.rb_tree.specs.declared.syntax.Piece.{Piece}
@@ -26,12 +27,13 @@ use Rattle.rb_tree.specs.declared.syntax.Rescue.{Rescue}
 use Rattle.rb_tree.specs.declared.syntax.Parameter.{Parameter}
 use Rattle.rb_views.specs.Targets.{callee_of}
 use Rattle.srb_references.specs.declared.reading.Reading.{Reading}
-use Rattle.srb_references.specs.declared.reference.Reference.{Reference}
 use Rattle.srb_references.specs.declared.reading.Reading.TheVariants as reading
 use Rattle.srb_references.specs.declared.reading.Taken.{Taken}
 use Rattle.srb_references.specs.declared.reading.Taken.TheVariants as taken
-use Rattle.srb_references.specs.Readings.{Visit, visit, plain, part_if, row_parts, arguments_parts, call_parts, suffixes_parts, piece_parts, pair_parts, arm_parts, when_parts, rescue_parts, guarded_parts, parameter_parts, parts, positional_reading, keyword_reading, is_single, statement_reading, inner_reading, receiver_reading, target_reading, taken_by_callee, taken_by_self, taken_on, block_by_callee, block_by_self, is_t}
-use Rattle.srb_references.specs.References.{own_references, Below, row_visits, visits_of, below_at, below, below_by_node}
+use Rattle.srb_references.specs.Readings.{Visit, visit, plain, part_if, row_parts, arguments_parts, call_parts, suffixes_parts, form_suffix_parts, post_parts, piece_parts, pair_parts, arm_parts, when_parts, rescue_parts, guarded_parts, parameter_parts, parts, positional_reading, keyword_reading, is_single, statement_reading, inner_reading, receiver_reading, target_reading, taken_by_callee, taken_by_self, taken_on, taken_in_type, is_call, row_reading, block_by_callee, block_by_self}
+use Rattle.srb_references.specs.TypeForms.{begins_path, is_t, is_within, is_positional, has_none, has_one, has_two, has_more, has_path, is_given, is_plain_call, form_if, named_form, proc_form, index_form, call_form, t_form, post_form}
+use Rattle.srb_references.specs.declared.type_form.TypeForm.TheVariants as form
+use Rattle.srb_references.specs.References.{Below, row_visits, visits_of, below_at, below, below_by_node}
 
 -- a tree with what is read below it
 abbrev Known : Type 0
@@ -43,6 +45,116 @@ known t = (t, below t)
 -- a part with what is read below its tree
 abbrev put : Visit Tree → Visit Known
 put v = visit v.reading v.scope (known v.part)
+
+-- ---- forms
+
+-- suffixes and arguments with what is read below their trees
+abbrev known-suffixes : List (Suffix Tree) → List (Suffix Known)
+known-suffixes = (former-Node-Post-1).map Tree Known known
+
+abbrev known-arguments : List (Argument Tree) → List (Argument Known)
+known-arguments = (former-Node-Command-1).map Tree Known known
+
+within-known : (xs : List (Suffix Tree)) → list_all is_within (known-suffixes xs) ≡ list_all is_within xs
+within-known [] = refl
+within-known (suffix.Call how name name_span arguments block span ∷ xs) = refl
+within-known (suffix.Constant name name_span span ∷ xs) = within-known xs
+within-known (suffix.Index arguments span ∷ xs) = refl
+
+calls-known : (xs : List (Suffix Tree)) → list_all is_call (known-suffixes xs) ≡ list_all is_call xs
+calls-known [] = refl
+calls-known (suffix.Call how name name_span arguments block span ∷ xs) = calls-known xs
+calls-known (suffix.Constant name name_span span ∷ xs) = refl
+calls-known (suffix.Index arguments span ∷ xs) = refl
+
+row-known-reading : (m : Reading) (xs : List (Suffix Tree)) → row_reading m (known-suffixes xs) ≡ row_reading m xs
+row-known-reading reading.Chain xs = ap (λ b. if b then reading.Chain else reading.Plain) (calls-known xs)
+row-known-reading m xs = refl
+
+positional-known : (xs : List (Argument Tree)) → list_all is_positional (known-arguments xs) ≡ list_all is_positional xs
+positional-known [] = refl
+positional-known (argument.Positional value ∷ xs) = positional-known xs
+positional-known (argument.Keyword name span value ∷ xs) = refl
+positional-known (argument.Block span value ∷ xs) = refl
+
+given-known : (xs : List (Argument Tree)) → list_all is_given (known-arguments xs) ≡ list_all is_given xs
+given-known [] = refl
+given-known (argument.Positional value ∷ xs) = given-known xs
+given-known (argument.Keyword name span value ∷ xs) = given-known xs
+given-known (argument.Block span value ∷ xs) = refl
+
+plain-known : (xs : List (Suffix Tree)) → list_all is_plain_call (known-suffixes xs) ≡ list_all is_plain_call xs
+plain-known [] = refl
+plain-known (suffix.Call dot.Plain name name_span None None span ∷ xs) = plain-known xs
+plain-known (suffix.Call dot.Plain name name_span (Some arguments) None span ∷ xs) = λ i. given-known arguments i && plain-known xs i
+plain-known (suffix.Call dot.Plain name name_span arguments (Some block) span ∷ xs) = refl
+plain-known (suffix.Call dot.Safe name name_span arguments block span ∷ xs) = refl
+plain-known (suffix.Constant name name_span span ∷ xs) = refl
+plain-known (suffix.Index arguments span ∷ xs) = refl
+
+none-known : (xs : List (Argument Tree)) → has_none (known-arguments xs) ≡ has_none xs
+none-known [] = refl
+none-known (x ∷ xs) = refl
+
+one-known : (xs : List (Argument Tree)) → has_one (known-arguments xs) ≡ has_one xs
+one-known [] = refl
+one-known (argument.Positional value ∷ []) = refl
+one-known (argument.Positional value ∷ x ∷ xs) = refl
+one-known (argument.Keyword name span value ∷ xs) = refl
+one-known (argument.Block span value ∷ xs) = refl
+
+two-known : (xs : List (Argument Tree)) → has_two (known-arguments xs) ≡ has_two xs
+two-known [] = refl
+two-known (argument.Positional value ∷ []) = refl
+two-known (argument.Positional value ∷ argument.Positional other ∷ []) = refl
+two-known (argument.Positional value ∷ argument.Positional other ∷ x ∷ xs) = refl
+two-known (argument.Positional value ∷ argument.Keyword name span other ∷ xs) = refl
+two-known (argument.Positional value ∷ argument.Block span other ∷ xs) = refl
+two-known (argument.Keyword name span value ∷ xs) = refl
+two-known (argument.Block span value ∷ xs) = refl
+
+more-known : (xs : List (Argument Tree)) → has_more (known-arguments xs) ≡ has_more xs
+more-known [] = refl
+more-known (x ∷ []) = refl
+more-known (x ∷ y ∷ xs) = positional-known (x ∷ y ∷ xs)
+
+path-known : (xs : List (Argument Tree)) → has_path (λ (x : Known). x.0) (known-arguments xs) ≡ has_path (λ x. x) xs
+path-known [] = refl
+path-known (argument.Positional value ∷ []) = refl
+path-known (argument.Positional value ∷ x ∷ xs) = refl
+path-known (argument.Keyword name span value ∷ xs) = refl
+path-known (argument.Block span value ∷ xs) = refl
+
+rest-known : (xs : List (Suffix Tree)) → has_none (known-suffixes xs) ≡ has_none xs
+rest-known [] = refl
+rest-known (x ∷ xs) = refl
+
+call-known : (name : List ℕ) (xs : List (Argument Tree)) (rest : List (Suffix Tree)) →
+    call_form (λ (x : Known). x.0) name (known-arguments xs) (known-suffixes rest) ≡ call_form (λ x. x) name xs rest
+call-known name xs rest = λ i.
+    if bytes_eq name (codes "proc") then proc_form (none-known xs i) (plain-known rest i)
+    else (if rest-known rest i then named_form name (none-known xs i) (one-known xs i) (more-known xs i) (path-known xs i) else form.Other)
+
+paths-known : (xs : List (Suffix Tree)) → form_if (list_all is_within (known-suffixes xs)) form.Path ≡ form_if (list_all is_within xs) form.Path
+paths-known xs = ap (λ b. form_if b form.Path) (within-known xs)
+
+t-known : (xs : List (Suffix Tree)) → t_form (λ (x : Known). x.0) (known-suffixes xs) ≡ t_form (λ x. x) xs
+t-known [] = refl
+t-known (suffix.Constant name name_span span ∷ []) = refl
+t-known (suffix.Constant name name_span span ∷ suffix.Index xs index_span ∷ []) = λ i. index_form name (one-known xs i) (two-known xs i)
+t-known (suffix.Constant name name_span span ∷ suffix.Index xs index_span ∷ y ∷ ys) = refl
+t-known (suffix.Constant name name_span span ∷ suffix.Constant other other_span whole ∷ ys) =
+    paths-known (suffix.Constant name name_span span ∷ suffix.Constant other other_span whole ∷ ys)
+t-known (suffix.Constant name name_span span ∷ suffix.Call how other other_span arguments block whole ∷ ys) = refl
+t-known (suffix.Call dot.Plain name name_span None None span ∷ ys) = call-known name [] ys
+t-known (suffix.Call dot.Plain name name_span (Some xs) None span ∷ ys) = call-known name xs ys
+t-known (suffix.Call dot.Plain name name_span arguments (Some block) span ∷ ys) = refl
+t-known (suffix.Call dot.Safe name name_span arguments block span ∷ ys) = refl
+t-known (suffix.Index xs index_span ∷ ys) = refl
+
+-- a form doesn't depend on what is read below the trees in it
+post-known : (receiver : Tree) (xs : List (Suffix Tree)) → post_form (λ (x : Known). x.0) (known receiver) (known-suffixes xs) ≡ post_form (λ x. x) receiver xs
+post-known receiver xs = λ i. if is_t receiver then t-known xs i else form_if (begins_path receiver && within-known xs i) form.Path
 
 -- ---- rows
 
@@ -66,29 +178,29 @@ module _ (scope : List (List ℕ)) where
 
   row-put : (how : Taken) (xs : List (Argument Tree)) → row_parts scope how ((former-Node-Command-1).map Tree Known known xs) ≡ map put (row_parts scope how xs)
   row-put how [] = refl
-  row-put how (argument.Positional value ∷ xs) = two-rows _ _ (part_if scope (positional_reading how) value) (row_parts scope how xs)
-      (part-put (positional_reading how) value) (row-put how xs)
-  row-put how (argument.Keyword name span value ∷ xs) = two-rows _ _ (part_if scope (keyword_reading how) value) (row_parts scope how xs)
-      (part-put (keyword_reading how) value) (row-put how xs)
+  row-put how (argument.Positional value ∷ xs) = ap (λ vs. visit (positional_reading how) scope (known value) ∷ vs) (row-put how xs)
+  row-put how (argument.Keyword name span value ∷ xs) = ap (λ vs. visit (keyword_reading how) scope (known value) ∷ vs) (row-put how xs)
   row-put how (argument.Block span value ∷ xs) = ap (λ vs. plain scope (known value) ∷ vs) (row-put how xs)
 
   arguments-put : (how : Taken) (xs : List (Argument Tree)) →
       arguments_parts scope how ((former-Node-Command-1).map Tree Known known xs) ≡ map put (arguments_parts scope how xs)
   arguments-put taken.All xs = row-put taken.All xs
   arguments-put taken.Mixins xs = row-put taken.Mixins xs
-  arguments-put taken.NotPositional xs = row-put taken.NotPositional xs
-  arguments-put taken.NotKeywords xs = row-put taken.NotKeywords xs
-  arguments-put taken.FirstOfTwo [] = refl
-  arguments-put taken.FirstOfTwo (argument.Positional value ∷ []) = refl
-  arguments-put taken.FirstOfTwo (argument.Positional value ∷ argument.Positional type ∷ []) = refl
-  arguments-put taken.FirstOfTwo (argument.Positional value ∷ argument.Positional type ∷ x ∷ xs) =
-      row-put taken.FirstOfTwo (argument.Positional value ∷ argument.Positional type ∷ x ∷ xs)
-  arguments-put taken.FirstOfTwo (argument.Positional value ∷ argument.Keyword name span other ∷ xs) =
-      row-put taken.FirstOfTwo (argument.Positional value ∷ argument.Keyword name span other ∷ xs)
-  arguments-put taken.FirstOfTwo (argument.Positional value ∷ argument.Block span other ∷ xs) =
-      row-put taken.FirstOfTwo (argument.Positional value ∷ argument.Block span other ∷ xs)
-  arguments-put taken.FirstOfTwo (argument.Keyword name span value ∷ xs) = row-put taken.FirstOfTwo (argument.Keyword name span value ∷ xs)
-  arguments-put taken.FirstOfTwo (argument.Block span value ∷ xs) = row-put taken.FirstOfTwo (argument.Block span value ∷ xs)
+  arguments-put taken.Types xs = row-put taken.Types xs
+  arguments-put taken.TypesByPlace xs = row-put taken.TypesByPlace xs
+  arguments-put taken.TypesByName xs = row-put taken.TypesByName xs
+  arguments-put taken.ClassNames xs = row-put taken.ClassNames xs
+  arguments-put taken.SecondIsType [] = refl
+  arguments-put taken.SecondIsType (argument.Positional value ∷ []) = refl
+  arguments-put taken.SecondIsType (argument.Positional value ∷ argument.Positional type ∷ []) = refl
+  arguments-put taken.SecondIsType (argument.Positional value ∷ argument.Positional type ∷ x ∷ xs) =
+      row-put taken.SecondIsType (argument.Positional value ∷ argument.Positional type ∷ x ∷ xs)
+  arguments-put taken.SecondIsType (argument.Positional value ∷ argument.Keyword name span other ∷ xs) =
+      row-put taken.SecondIsType (argument.Positional value ∷ argument.Keyword name span other ∷ xs)
+  arguments-put taken.SecondIsType (argument.Positional value ∷ argument.Block span other ∷ xs) =
+      row-put taken.SecondIsType (argument.Positional value ∷ argument.Block span other ∷ xs)
+  arguments-put taken.SecondIsType (argument.Keyword name span value ∷ xs) = row-put taken.SecondIsType (argument.Keyword name span value ∷ xs)
+  arguments-put taken.SecondIsType (argument.Block span value ∷ xs) = row-put taken.SecondIsType (argument.Block span value ∷ xs)
 
   abbrev put-block : Block Tree → Block Known
   put-block b = record { parameters = b.parameters; body = known b.body; span = b.span }
@@ -106,20 +218,40 @@ module _ (scope : List (List ℕ)) where
       suffixes_parts scope m on_t ((former-Node-Post-1).map Tree Known known xs) ≡ map put (suffixes_parts scope m on_t xs)
   suffixes-put m on_t [] = refl
   suffixes-put m on_t (suffix.Call how name name_span None None span ∷ xs) =
-      two-rows _ _ (call_parts scope (taken_on m on_t how name) [] reading.Plain None) (suffixes_parts scope m false xs)
-      (call-put (taken_on m on_t how name) reading.Plain []) (suffixes-put m false xs)
+      two-rows _ _ (call_parts scope (taken_on m on_t how name false) [] reading.Plain None) (suffixes_parts scope m false xs)
+      (call-put (taken_on m on_t how name false) reading.Plain []) (suffixes-put m false xs)
   suffixes-put m on_t (suffix.Call how name name_span None (Some block) span ∷ xs) =
-      two-rows _ _ (call_parts scope (taken_on m on_t how name) [] reading.Plain (Some block)) (suffixes_parts scope m false xs)
-      (call-block-put (taken_on m on_t how name) reading.Plain [] block) (suffixes-put m false xs)
+      two-rows _ _ (call_parts scope (taken_on m on_t how name true) [] reading.Plain (Some block)) (suffixes_parts scope m false xs)
+      (call-block-put (taken_on m on_t how name true) reading.Plain [] block) (suffixes-put m false xs)
   suffixes-put m on_t (suffix.Call how name name_span (Some arguments) None span ∷ xs) =
-      two-rows _ _ (call_parts scope (taken_on m on_t how name) arguments reading.Plain None) (suffixes_parts scope m false xs)
-      (call-put (taken_on m on_t how name) reading.Plain arguments) (suffixes-put m false xs)
+      two-rows _ _ (call_parts scope (taken_on m on_t how name false) arguments reading.Plain None) (suffixes_parts scope m false xs)
+      (call-put (taken_on m on_t how name false) reading.Plain arguments) (suffixes-put m false xs)
   suffixes-put m on_t (suffix.Call how name name_span (Some arguments) (Some block) span ∷ xs) =
-      two-rows _ _ (call_parts scope (taken_on m on_t how name) arguments reading.Plain (Some block)) (suffixes_parts scope m false xs)
-      (call-block-put (taken_on m on_t how name) reading.Plain arguments block) (suffixes-put m false xs)
+      two-rows _ _ (call_parts scope (taken_on m on_t how name true) arguments reading.Plain (Some block)) (suffixes_parts scope m false xs)
+      (call-block-put (taken_on m on_t how name true) reading.Plain arguments block) (suffixes-put m false xs)
   suffixes-put m on_t (suffix.Constant name name_span span ∷ xs) = suffixes-put m false xs
   suffixes-put m on_t (suffix.Index arguments span ∷ xs) =
       two-rows _ _ (row_parts scope taken.All arguments) (suffixes_parts scope m false xs) (row-put taken.All arguments) (suffixes-put m false xs)
+
+  form-put : (how : Taken) (xs : List (Suffix Tree)) →
+      flat_map (form_suffix_parts scope how) ((former-Node-Post-1).map Tree Known known xs) ≡ map put (flat_map (form_suffix_parts scope how) xs)
+  form-put how [] = refl
+  form-put how (suffix.Call dotted name name_span None None span ∷ xs) = form-put how xs
+  form-put how (suffix.Call dotted name name_span None (Some block) span ∷ xs) = form-put how xs
+  form-put how (suffix.Call dotted name name_span (Some arguments) None span ∷ xs) =
+      two-rows _ _ (row_parts scope how arguments) (flat_map (form_suffix_parts scope how) xs) (row-put how arguments) (form-put how xs)
+  form-put how (suffix.Call dotted name name_span (Some arguments) (Some block) span ∷ xs) =
+      two-rows _ _ (row_parts scope how arguments) (flat_map (form_suffix_parts scope how) xs) (row-put how arguments) (form-put how xs)
+  form-put how (suffix.Constant name name_span span ∷ xs) = form-put how xs
+  form-put how (suffix.Index arguments span ∷ xs) =
+      two-rows _ _ (row_parts scope how arguments) (flat_map (form_suffix_parts scope how) xs) (row-put how arguments) (form-put how xs)
+
+  post-put : (how : Option Taken) (m : Reading) (receiver : Tree) (xs : List (Suffix Tree)) →
+      post_parts scope how m receiver (known receiver) ((former-Node-Post-1).map Tree Known known xs) ≡ map put (post_parts scope how m receiver receiver xs)
+  post-put (Some how) m receiver xs = form-put how xs
+  post-put None m receiver xs =
+      two-rows _ _ (part_if scope (receiver_reading m receiver) receiver) (suffixes_parts scope m (is_t receiver) xs)
+      (part-put (receiver_reading m receiver) receiver) (suffixes-put m (is_t receiver) xs)
 
   pieces-put : (xs : List (Piece Tree)) → flat_map (piece_parts scope) ((former-Node-Text-0).map Tree Known known xs) ≡ map put (flat_map (piece_parts scope) xs)
   pieces-put [] = refl
@@ -208,8 +340,9 @@ module _ (f : Node → Node × Below) (m : Reading) (scope : List (List ℕ)) wh
   parts-put (Node-F.Command callee arguments (Some block) span) = ap (λ vs. visit (inner_reading m) scope (known callee) ∷ vs)
       (call-block-put scope (taken_by_callee m (callee_of callee) true) (block_by_callee m (callee_of callee)) arguments block)
   parts-put (Node-F.Post receiver suffixes span) =
-      two-rows _ _ (part_if scope (receiver_reading m receiver) receiver) (suffixes_parts scope m (is_t receiver) suffixes)
-      (part-put scope (receiver_reading m receiver) receiver) (suffixes-put scope m (is_t receiver) suffixes)
+      (λ i. post_parts scope (taken_in_type m (post-known receiver suffixes i)) (row-known-reading m suffixes i) receiver (known receiver)
+      ((former-Node-Post-1).map Tree Known known suffixes))
+      ∙ post-put scope (taken_in_type m (post_form (λ t. t) receiver suffixes)) (row_reading m suffixes) receiver suffixes
   parts-put (Node-F.Text pieces span) = pieces-put scope pieces
   parts-put (Node-F.Call name name_span None None span) = call-put scope (taken_by_self m name false) (block_by_self m name) []
   parts-put (Node-F.Call name name_span None (Some block) span) = call-block-put scope (taken_by_self m name true) (block_by_self m name) [] block
@@ -306,11 +439,10 @@ pub falls : (before between after : List (Visit Tree)) (v : Visit Tree) → befo
     length (row_visits (λ x. x) below after) < length (row_visits (λ x. x) below before)
 falls before between after v e h = let p = ap length (moved before between after v e h) in omega (arith, p)
 
--- what is found and what is still to be found stay the same
-pub keeps : (found : List Reference) (before between after : List (Visit Tree)) (v : Visit Tree) → before ≡ between ++ v ∷ [] →
+-- what is found, where each part has some of its own, and what is still to be found stay the same
+pub keeps : {B : Type 0} (own : Visit Tree → List B) (found : List B) (before between after : List (Visit Tree)) (v : Visit Tree) → before ≡ between ++ v ∷ [] →
     after ≡ between ++ parts (λ x. x) v.reading v.scope (out-Node v.part.node) →
-    (found ++ own_references v) ++ flat_map own_references (row_visits (λ x. x) below after)
-    ≡ found ++ flat_map own_references (row_visits (λ x. x) below before)
-keeps found before between after v e h =
-    append_assoc found (own_references v) (flat_map own_references (row_visits (λ x. x) below after))
-    ∙ ap (λ vs. found ++ flat_map own_references vs) (sym (moved before between after v e h))
+    (found ++ own v) ++ flat_map own (row_visits (λ x. x) below after) ≡ found ++ flat_map own (row_visits (λ x. x) below before)
+keeps own found before between after v e h =
+    append_assoc found (own v) (flat_map own (row_visits (λ x. x) below after))
+    ∙ ap (λ vs. found ++ flat_map own vs) (sym (moved before between after v e h))

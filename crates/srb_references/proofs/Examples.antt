@@ -16,7 +16,8 @@ use Rattle.rb_views.specs.Paths.{path_of, path_of_prefix}
 use Rattle.rb_views.specs.Prefixes.{prefix_of}
 use Rattle.rb_views.specs.Targets.{callee_of}
 use Rattle.srb_references.specs.declared.reading.Reading.{Reading}
-use Rattle.srb_references.specs.Readings.{parts, is_constant, begins_path, is_t}
+use Rattle.srb_references.specs.Readings.{parts, is_constant}
+use Rattle.srb_references.specs.TypeForms.{begins_path, is_t, is_path, type_form}
 use Rattle.srb_references.specs.References.{references_of, own_references, row_visits, below, below_by_node}
 use Rattle.srb_references.specs.Examples.{ClassRefers, CallsRefer, PathsRefer}
 use Rattle.srb_references.proofs.Equations.{below_is}
@@ -65,13 +66,13 @@ below-at n m scope = below_is (record { node = n }) m scope
 -- ---- the examples
 
 pub paths : PathsRefer
-unfolding references_of own_references is_constant begins_path is_t path_of path_of_prefix prefix_of callee_of
+unfolding references_of own_references is_constant begins_path is_t is_path type_form path_of path_of_prefix prefix_of callee_of
 paths = simp (below-at, out-constant, out-top, out-post)
 
 pub calls : CallsRefer
-unfolding references_of own_references is_constant begins_path is_t path_of path_of_prefix prefix_of callee_of
+unfolding references_of own_references is_constant begins_path is_t is_path type_form path_of path_of_prefix prefix_of callee_of
 calls = simp (below-at, out-body, out-assign, out-command, out-constant, out-post, out-name, out-call)
 
 pub classes : ClassRefers
-unfolding references_of own_references is_constant begins_path is_t path_of path_of_prefix prefix_of callee_of
+unfolding references_of own_references is_constant begins_path is_t is_path type_form path_of path_of_prefix prefix_of callee_of
 classes = simp (below-at, out-body, out-command, out-constant, out-name, out-call, out-class)

@@ -1,3 +1,3 @@
 pub mod Equations
 pub mod Examples
-mod Standing
+pub mod Standing

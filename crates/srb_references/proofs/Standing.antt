@@ -26,7 +26,7 @@ ancestors-stand : (w : World) (fs : List Fact) → Stands w fs → (p : Position
 ancestors-stand w fs s position.Value c = ap (λ l. unwrap_or l []) (s.lins c)
 ancestors-stand w fs s position.Parent c = alone-stands w fs s c
 
-resolved-stands :
+pub resolved-stands :
     (w : World) (fs : List Fact) → Stands w fs → (scope path : List (List ℕ)) (p : Position) → resolved_at w scope path p ≡ resolves fs scope path p
 unfolding resolves
 resolved-stands w fs s scope path p =

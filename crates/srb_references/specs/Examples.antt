@@ -31,7 +31,7 @@ abbrev pub sig : List Tree → Tree
 sig statements = tree.Call (codes "sig") (from_to 27 30) None
     (Some (record { parameters = []; body = tree.Body statements (from_to 33 43); span = from_to 31 45 })) (from_to 27 45)
 
--- `class A::B < P; include M; sig { returns(X) }; Y; end`: X is a type
+-- `class A::B < P; include M; sig { returns(X) }; Y; end`
 abbrev pub CLASS : Tree
 CLASS = tree.Class (record { name = codes "A"; span = from_to 6 7 } ∷ record { name = codes "B"; span = from_to 9 10 } ∷ [])
     (Some (record { top = false; path = record { name = codes "P"; span = from_to 13 14 } ∷ []; span = from_to 13 14 }))
@@ -45,16 +45,24 @@ CLASS_REFERENCES =
     record { scope = []; path = codes "A" ∷ []; position = position.Value; wants_body = true; span = from_to 6 7 }
     ∷ reference [] (codes "P" ∷ []) position.Parent 13 14
     ∷ reference IN_CLASS (codes "Y" ∷ []) position.Value 47 48
+    ∷ reference IN_CLASS (codes "X" ∷ []) position.Value 41 42
     ∷ reference IN_CLASS (codes "M" ∷ []) position.Parent 24 25
     ∷ []
 
--- `X = T.let(y, Z)`: X is declared, and Z is a type
+-- `T::Array[Z]`
+abbrev pub ARRAY : Tree
+ARRAY = tree.Post (tree.Constant (codes "T") (from_to 13 14))
+    (suffix.Constant (codes "Array") (from_to 16 21) (from_to 14 21)
+    ∷ suffix.Index (argument.Positional (tree.Constant (codes "Z") (from_to 22 23)) ∷ []) (from_to 21 24)
+    ∷ []) (from_to 13 24)
+
+-- `X = T.let(y, T::Array[Z])`: X is declared, and `T::Array` is no constant
 abbrev pub ASSERTED : Tree
 ASSERTED = tree.Assign (tree.Constant (codes "X") (from_to 0 1))
     (tree.Post (tree.Constant (codes "T") (from_to 4 5))
     (suffix.Call dot.Plain (codes "let") (from_to 6 9)
-    (Some (argument.Positional (tree.Name (codes "y") (from_to 10 11)) ∷ argument.Positional (tree.Constant (codes "Z") (from_to 13 14)) ∷ []))
-    None (from_to 5 15) ∷ []) (from_to 4 15)) (from_to 0 15)
+    (Some (argument.Positional (tree.Name (codes "y") (from_to 10 11)) ∷ argument.Positional ARRAY ∷ []))
+    None (from_to 5 25) ∷ []) (from_to 4 25)) (from_to 0 25)
 
 -- that, `include M` and `sig { returns(X) }` at the program's level, where the last two are calls like others
 abbrev pub CALLS : Tree
@@ -65,6 +73,7 @@ CALL_REFERENCES =
     reference [] (codes "X" ∷ []) position.Value 41 42
     ∷ reference [] (codes "M" ∷ []) position.Value 24 25
     ∷ reference [] (codes "T" ∷ []) position.Value 4 5
+    ∷ reference [] (codes "Z" ∷ []) position.Value 22 23
     ∷ []
 
 -- `::A::B.c(D)`: the path as far as it goes, and the argument

@@ -1,4 +1,5 @@
 pub mod Examples
 pub mod Readings
+pub mod TypeForms
 pub mod References
 pub mod Visits

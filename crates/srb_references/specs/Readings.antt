@@ -1,8 +1,8 @@
 -- How the parts of a program are read that may hold constant references. A part is read in one of a few readings; the reading of a node
--- says which of its parts are read next, and how. What isn't read is a type expression, or a constant that stands for no reference of its
--- own: one that is assigned to, and one with which a path begins.
-use Rattle.std.specs.Prelude.{ℕ, Bool, true, false, ◌&&◌, List, [], ◌∷◌, ◌++◌, map, codes, bytes_eq, if◌then◌else◌, Option, Some, None}
-use Rattle.std.specs.List.{flat_map}
+-- says which of its parts are read next, and how. What isn't read is a constant that stands for no reference of its own: one that is
+-- assigned to, and one with which a path begins.
+use Rattle.std.specs.Prelude.{ℕ, Bool, true, false, not, ◌&&◌, List, [], ◌∷◌, ◌++◌, map, codes, bytes_eq, if◌then◌else◌, Option, Some, None}
+use Rattle.std.specs.List.{flat_map, list_all}
 use Rattle.std.specs.Option.{is_some}
 use Rattle.rb_tree.specs.declared.syntax.Argument.{Argument}
 use Rattle.rb_tree.specs.declared.syntax.Argument.TheVariants as argument
@@ -31,6 +31,9 @@ use Rattle.srb_references.specs.declared.reading.Reading.{Reading}
 use Rattle.srb_references.specs.declared.reading.Reading.TheVariants as reading
 use Rattle.srb_references.specs.declared.reading.Taken.{Taken}
 use Rattle.srb_references.specs.declared.reading.Taken.TheVariants as taken
+use Rattle.srb_references.specs.declared.type_form.TypeForm.{TypeForm}
+use Rattle.srb_references.specs.declared.type_form.TypeForm.TheVariants as form
+use Rattle.srb_references.specs.TypeForms.{begins_path, is_t, post_form}
 
 -- A part that is read: how, in which scope, and what stands there. A scope is the list of the full names of the enclosing class and
 -- module bodies, the innermost first.
@@ -52,23 +55,6 @@ is_name_of_constant _ = false
 unfoldable pub is_constant : Tree → Bool
 is_constant t = is_name_of_constant (out-Node t.node)
 
-abbrev pub begins_path_at : {X Y : Type 0} → Node-F X Y → Bool
-begins_path_at (Node-F.Constant name span) = true
-begins_path_at (Node-F.TopConstant name name_span span) = true
-begins_path_at _ = false
-
--- whether a tree is a constant, perhaps with `::` in front
-unfoldable pub begins_path : Tree → Bool
-begins_path t = begins_path_at (out-Node t.node)
-
-abbrev pub is_t_at : {X Y : Type 0} → Node-F X Y → Bool
-is_t_at (Node-F.Constant name span) = bytes_eq name (codes "T")
-is_t_at _ = false
-
--- whether a tree is the constant `T`
-unfoldable pub is_t : Tree → Bool
-is_t t = is_t_at (out-Node t.node)
-
 -- whether a prefix is the constant `T` alone
 abbrev pub is_t_alone : Tree → List (Suffix Tree) → Bool
 is_t_alone operand [] = is_t operand
@@ -80,16 +66,16 @@ is_plain_dot dot.Safe = false
 
 -- ---- the arguments of calls
 
--- whether a call by this dot, of this name, asserts a type, where it is on `T` or not: it is `T.let` or `T.cast`
-abbrev pub asserts : Bool → Dot → List ℕ → Bool
-asserts on_t how name =
-    if on_t && is_plain_dot how then (if bytes_eq name (codes "let") then true else bytes_eq name (codes "cast")) else false
+-- whether a call by this dot, of this name, with or without a block, asserts a type, where it is on `T` or not: it is `T.let` or `T.cast`
+abbrev pub asserts : Bool → Dot → List ℕ → Bool → Bool
+asserts on_t how name block =
+    if on_t && is_plain_dot how && not block then (if bytes_eq name (codes "let") then true else bytes_eq name (codes "cast")) else false
 
 -- of a call of a signature's chain: what `returns` has by place and what `params` has by name are types
 abbrev pub taken_in_chain : List ℕ → Taken
 taken_in_chain name =
-    if bytes_eq name (codes "returns") then taken.NotPositional
-    else (if bytes_eq name (codes "params") then taken.NotKeywords else taken.All)
+    if bytes_eq name (codes "returns") then taken.TypesByPlace
+    else (if bytes_eq name (codes "params") then taken.TypesByName else taken.All)
 
 -- of a call by its name alone
 abbrev pub taken_by_name : Reading → List ℕ → Taken
@@ -97,8 +83,18 @@ taken_by_name reading.Chain name = taken_in_chain name
 taken_by_name _ name = taken.All
 
 -- of a call on a receiver, which may be `T`
-abbrev pub taken_on : Reading → Bool → Dot → List ℕ → Taken
-taken_on m on_t how name = if asserts on_t how name then taken.FirstOfTwo else taken_by_name m name
+abbrev pub taken_on : Reading → Bool → Dot → List ℕ → Bool → Taken
+taken_on m on_t how name block = if asserts on_t how name block then taken.SecondIsType else taken_by_name m name
+
+-- whether suffixes are calls alone
+abbrev pub is_call : {X : Type 0} → Suffix X → Bool
+is_call (suffix.Call how name name_span arguments block span) = true
+is_call _ = false
+
+-- of what suffixes make: in a signature's chain there are calls alone
+abbrev pub row_reading : {X : Type 0} → Reading → List (Suffix X) → Reading
+row_reading reading.Chain suffixes = if list_all is_call suffixes then reading.Chain else reading.Plain
+row_reading m suffixes = m
 
 -- of a call on `self`, with or without a block: as a direct statement of a class or module body it may be `include` or `extend`
 abbrev pub taken_by_self : Reading → List ℕ → Bool → Taken
@@ -108,19 +104,35 @@ taken_by_self m name _ = taken_by_name m name
 -- of a command that calls this, with or without a block
 abbrev pub taken_by_callee : Reading → Option targets.Callee → Bool → Taken
 taken_by_callee m (Some (targets.Name name span)) block = taken_by_self m name block
-taken_by_callee m (Some (targets.Call prefix how name span)) block = taken_on m (is_t_alone prefix.operand prefix.suffixes) how name
+taken_by_callee m (Some (targets.Call prefix how name span)) block =
+    taken_on (row_reading m prefix.suffixes) (is_t_alone prefix.operand prefix.suffixes) how name block
 taken_by_callee m _ block = taken.All
 
--- how an argument by its place is read; None where it isn't
-abbrev pub positional_reading : Taken → Option Reading
-positional_reading taken.Mixins = Some reading.Mixin
-positional_reading taken.NotPositional = None
-positional_reading _ = Some reading.Plain
+-- of what a type expression of this form has in it; None where the form has no such arguments, or isn't one
+abbrev pub taken_of_form : TypeForm → Option Taken
+taken_of_form form.Path = None
+taken_of_form form.Other = None
+taken_of_form form.ClassOf = Some taken.ClassNames
+taken_of_form _ = Some taken.Types
 
--- how a keyword argument is read; None where it isn't
-abbrev pub keyword_reading : Taken → Option Reading
-keyword_reading taken.NotKeywords = None
-keyword_reading _ = Some reading.Plain
+-- the same, where it is read as a type expression
+abbrev pub taken_in_type : Reading → TypeForm → Option Taken
+taken_in_type reading.TypeExpression f = taken_of_form f
+taken_in_type _ f = None
+
+-- how an argument by its place is read
+abbrev pub positional_reading : Taken → Reading
+positional_reading taken.Mixins = reading.Mixin
+positional_reading taken.Types = reading.TypeExpression
+positional_reading taken.TypesByPlace = reading.TypeExpression
+positional_reading taken.ClassNames = reading.ClassName
+positional_reading _ = reading.Plain
+
+-- how a keyword argument is read
+abbrev pub keyword_reading : Taken → Reading
+keyword_reading taken.Types = reading.TypeExpression
+keyword_reading taken.TypesByName = reading.TypeExpression
+keyword_reading _ = reading.Plain
 
 -- ---- the readings of other parts
 
@@ -176,8 +188,8 @@ module _ {X : Type 0} (scope : List (List ℕ)) where
 
   -- the value of an argument
   abbrev pub argument_parts : Taken → Argument X → List (Visit X)
-  argument_parts how (argument.Positional value) = part_if (positional_reading how) value
-  argument_parts how (argument.Keyword name span value) = part_if (keyword_reading how) value
+  argument_parts how (argument.Positional value) = visit (positional_reading how) scope value ∷ []
+  argument_parts how (argument.Keyword name span value) = visit (keyword_reading how) scope value ∷ []
   argument_parts how (argument.Block span value) = plain value ∷ []
 
   -- the values of arguments
@@ -185,7 +197,7 @@ module _ {X : Type 0} (scope : List (List ℕ)) where
   row_parts how arguments = flat_map (argument_parts how) arguments
 
   abbrev pub arguments_parts : Taken → List (Argument X) → List (Visit X)
-  arguments_parts taken.FirstOfTwo (argument.Positional value ∷ argument.Positional type ∷ []) = plain value ∷ []
+  arguments_parts taken.SecondIsType (argument.Positional value ∷ argument.Positional type ∷ []) = plain value ∷ visit reading.TypeExpression scope type ∷ []
   arguments_parts how arguments = row_parts how arguments
 
   -- the body of a block
@@ -200,7 +212,7 @@ module _ {X : Type 0} (scope : List (List ℕ)) where
   -- a suffix, which may be a call on `T`
   abbrev pub suffix_parts : Reading → Bool → Suffix X → List (Visit X)
   suffix_parts m on_t (suffix.Call how name name_span arguments block span) =
-      call_parts (taken_on m on_t how name) (arguments_of arguments) reading.Plain block
+      call_parts (taken_on m on_t how name (is_some block)) (arguments_of arguments) reading.Plain block
   suffix_parts m on_t (suffix.Constant name name_span span) = []
   suffix_parts m on_t (suffix.Index arguments span) = row_parts taken.All arguments
 
@@ -208,6 +220,17 @@ module _ {X : Type 0} (scope : List (List ℕ)) where
   abbrev pub suffixes_parts : Reading → Bool → List (Suffix X) → List (Visit X)
   suffixes_parts m on_t [] = []
   suffixes_parts m on_t (s ∷ rest) = suffix_parts m on_t s ++ suffixes_parts m false rest
+
+  -- the arguments of a suffix of a type expression's form
+  abbrev pub form_suffix_parts : Taken → Suffix X → List (Visit X)
+  form_suffix_parts how (suffix.Call dotted name name_span arguments block span) = row_parts how (arguments_of arguments)
+  form_suffix_parts how (suffix.Constant name name_span span) = []
+  form_suffix_parts how (suffix.Index arguments span) = row_parts how arguments
+
+  -- an operand with suffixes, the operand by its tree; as a type expression of a form, where it is read as one, it has the arguments alone
+  abbrev pub post_parts : Option Taken → Reading → Tree → X → List (Suffix X) → List (Visit X)
+  post_parts (Some how) m operand receiver suffixes = flat_map (form_suffix_parts how) suffixes
+  post_parts None m operand receiver suffixes = part_if (receiver_reading m operand) receiver ++ suffixes_parts m (is_t operand) suffixes
 
   -- what stands between the `#{` and the `}` of a string
   abbrev pub piece_parts : Piece X → List (Visit X)
@@ -253,7 +276,8 @@ module _ {X : Type 0} (it : X → Tree) (m : Reading) (scope : List (List ℕ)) 
   parts (Node-F.Conditional condition positive negative span) = plain scope condition ∷ plain scope positive ∷ plain scope negative ∷ []
   parts (Node-F.Binary operator operator_span left right span) = plain scope left ∷ plain scope right ∷ []
   parts (Node-F.Unary operator operand span) = plain scope operand ∷ []
-  parts (Node-F.Post receiver suffixes span) = part_if scope (receiver_reading m (it receiver)) receiver ++ suffixes_parts scope m (is_t (it receiver)) suffixes
+  parts (Node-F.Post receiver suffixes span) =
+      post_parts scope (taken_in_type m (post_form it receiver suffixes)) (row_reading m suffixes) (it receiver) receiver suffixes
   parts (Node-F.Text pieces span) = flat_map (piece_parts scope) pieces
   parts (Node-F.Call name name_span arguments block span) =
       call_parts scope (taken_by_self m name (is_some block)) (arguments_of arguments) (block_by_self m name) block

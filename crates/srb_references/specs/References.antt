@@ -1,6 +1,7 @@
--- The constant references of a program outside type expressions, and which of them are errors.
+-- The constant references of a program, and which of them are errors.
 use Rattle.std.specs.Prelude.{ℕ, ◌-◌, Bool, true, false, List, [], ◌∷◌, ◌++◌, length, take, codes, if◌then◌else◌, Option, Some, None}
 use Rattle.std.specs.List.{flat_map}
+use Rattle.std.specs.Option.{is_some}
 use Rattle.srb_terms.specs.Worlds.{joined, kind_at}
 use Rattle.srb_terms.specs.declared.diag.Diag.{Diag}
 use Rattle.srb_terms.specs.declared.fact.Fact.{Fact}
@@ -20,7 +21,8 @@ use Rattle.srb_rules.specs.Resolves.{resolves}
 use Rattle.srb_rules.specs.Standing.{resolved_at}
 use Rattle.srb_rules.specs.declared.position.Position.{Position}
 use Rattle.srb_rules.specs.declared.position.Position.TheVariants as position
-use Rattle.srb_references.specs.Readings.{Visit, visit, parts}
+use Rattle.srb_references.specs.Readings.{Visit, visit, parts, taken_in_type}
+use Rattle.srb_references.specs.TypeForms.{type_form}
 use Rattle.srb_references.specs.declared.reading.Reading.{Reading}
 use Rattle.srb_references.specs.declared.reading.Reading.TheVariants as reading
 use Rattle.srb_references.specs.declared.reference.Reference.{Reference}
@@ -69,6 +71,14 @@ path_references m scope None = []
 path_references m scope (Some p) =
     record { scope = scope; path = written p.top p.names; position = path_position m p.rest; wants_body = false; span = p.span } ∷ []
 
+-- whether a part is read as a type expression of a form like `T::Array[X]`: then its `T::Array` is no reference
+abbrev pub is_form_of_type : Reading → Tree → Bool
+is_form_of_type m t = is_some (taken_in_type m (type_form t))
+
+-- the path with which a part begins, if it is a reference
+abbrev pub named_references : Reading → List (List ℕ) → Tree → List Reference
+named_references m scope t = if is_form_of_type m t then [] else path_references m scope (path_of t)
+
 -- a superclass, from the scope around its class
 abbrev pub superclass_references : List (List ℕ) → Option syntax.Reference → List Reference
 superclass_references scope None = []
@@ -93,7 +103,7 @@ declared_references scope _ = []
 
 -- the references of a part itself, without those below it
 unfoldable pub own_references : Visit Tree → List Reference
-own_references v = path_references v.reading v.scope (path_of v.part) ++ declared_references v.scope (out-Node v.part.node)
+own_references v = named_references v.reading v.scope v.part ++ declared_references v.scope (out-Node v.part.node)
 
 -- the constant references of a program, each once
 unfoldable pub references_of : Tree → List Reference

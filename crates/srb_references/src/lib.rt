@@ -1,21 +1,25 @@
-//! The constant references of a program outside type expressions, each with its scope, its path and its place, and the errors of those
-//! that stand for nothing.
+//! The constant references of a program, each with its scope, its path and its place, and the errors of those that stand for nothing.
 //!
-//! `references` gives a reference for each path of constants in an expression, for each superclass and each mixin, and for the names in
-//! front of the last one of a declared path. A constant that is assigned to is none. `unresolved` looks them up in the symbol table.
+//! `references` gives a reference for each path of constants in an expression or a type expression, for each superclass and each mixin, and
+//! for the names in front of the last one of a declared path. A constant that is assigned to is none, and neither is the `T::Array` of a
+//! type expression `T::Array[X]`. `unresolved` looks them up in the symbol table.
+//!
+//! The walk serves other readers of a program too: `visit::Worklist` and `nodes::parts` give each part with its scope and how it is read,
+//! and `type_form` tells the form of a type expression.
 #![tactic(auto)]
 
 mod errors;
 pub mod laws;
-mod nodes;
+pub mod nodes;
 mod own;
-mod reading;
+pub mod reading;
 mod reference;
 mod rows;
 mod taken;
 #[cfg(test)]
 mod tests;
-mod visit;
+pub mod type_form;
+pub mod visit;
 mod walk;
 
 pub use errors::unresolved;

@@ -7,17 +7,19 @@ ghost use Rattle.rb_tree.specs.declared.syntax.Node.{out-Node};
 ghost use Rattle.rb_views.specs.Calls as calls;
 ghost use Rattle.rb_views.specs.Targets.{callee_of};
 ghost use Rattle.srb_references.specs.Readings as spec;
+ghost use Rattle.srb_references.specs.TypeForms as forms;
 ghost use Rattle.srb_declarations.specs.Declarations as declared;
 
 use crate::reading::{Reading, Taken};
 use crate::rows::{
-    arms, call, guarded, if_any, in_brackets, pairs, parameters, part_if, pieces, plain, row,
+    arms, call, form_suffixes, guarded, if_any, pairs, parameters, part_if, pieces, plain, row,
     suffixes, trees, two, whens,
 };
 use crate::taken::{
-    block_by_callee, block_by_self, inner_reading, is_single, is_t, receiver_reading,
-    statement_reading, taken_by_callee, taken_by_self, target_reading,
+    block_by_callee, block_by_self, inner_reading, is_single, receiver_reading, row_reading,
+    statement_reading, taken_by_callee, taken_by_self, taken_in_type, target_reading,
 };
+use crate::type_form::{in_brackets, is_t, post_form};
 use crate::visit::Worklist;
 use rb_tree::syntax::{
     Argument, Arm, Block, Guarded, Node, Parameter, PlacedName, Suffix, Tree, When,
@@ -86,6 +88,26 @@ fn three<'a>(
     plain(list, scope, third)
 }
 
+/// Adds the parts of an operand with suffixes; of a type expression of a form, where it is read as one, the arguments alone.
+fn post_by<'a>(
+    list: &mut Worklist<'a>,
+    taken: Option<Taken>,
+    reading: Reading,
+    scope: &Names,
+    receiver: &'a Tree,
+    row: &'a [Suffix<Tree>],
+) -> Result<(), NoMemory>
+    ensures { OnOk result (list.new ≡ list.old ++ spec.post_parts scope.now taken reading receiver.now receiver.now row.now) }
+{
+    match taken {
+        Some(taken) => form_suffixes(list, scope, taken, row),
+        None => {
+            part_if(list, scope, receiver_reading(reading, receiver), receiver)?;
+            suffixes(list, scope, reading, is_t(receiver), row)
+        }
+    }
+}
+
 /// Adds the parts of an operand with suffixes.
 fn post<'a>(
     list: &mut Worklist<'a>,
@@ -94,11 +116,11 @@ fn post<'a>(
     receiver: &'a Tree,
     row: &'a [Suffix<Tree>],
 ) -> Result<(), NoMemory>
-    ensures { OnOk result (list.new ≡ list.old ++ (spec.part_if scope.now (spec.receiver_reading reading receiver.now) receiver.now
-        ++ spec.suffixes_parts scope.now reading (spec.is_t receiver.now) row.now)) }
+    ensures { OnOk result (list.new ≡ list.old ++ spec.post_parts scope.now (spec.taken_in_type reading (forms.post_form (λ t. t) receiver.now row.now))
+        (spec.row_reading reading row.now) receiver.now receiver.now row.now) }
 {
-    part_if(list, scope, receiver_reading(reading, receiver), receiver)?;
-    suffixes(list, scope, reading, is_t(receiver), row)
+    let taken = taken_in_type(reading, post_form(receiver, row));
+    post_by(list, taken, row_reading(reading, row), scope, receiver, row)
 }
 
 /// Adds the parts of a call on `self`.

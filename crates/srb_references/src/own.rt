@@ -8,6 +8,8 @@ ghost use Rattle.srb_references.specs.Visits.{seen_visit};
 
 use crate::reading::Reading;
 use crate::reference::Reference;
+use crate::taken::taken_in_type;
+use crate::type_form::type_form;
 use crate::visit::Visit;
 use rb_tree::syntax::{Node, PlacedName, Reference as Superclass, Suffix, Tree};
 use rb_views::path::{Path, PathNames};
@@ -46,6 +48,33 @@ fn with_path<'a>(
             wants_body: false,
             span: path.span,
         }),
+    }
+}
+
+/// Whether a part is read as a type expression of a form like `T::Array[X]`: then its `T::Array` is no reference.
+fn is_form_of_type(reading: Reading, tree: &Tree) -> bool
+    ensures { result ≡ spec.is_form_of_type reading tree.now }
+{
+    match reading {
+        Reading::TypeExpression => taken_in_type(reading, type_form(tree)).is_some(),
+        _ => false,
+    }
+}
+
+/// Adds the path with which a part begins, if it is a reference.
+fn with_named(
+    alloc: Global,
+    reading: Reading,
+    scope: &Names,
+    tree: &Tree,
+    found: &mut Items<Reference>,
+) -> Result<(), NoMemory>
+    ensures { OnOk result (found.new ≡ found.old ++ spec.named_references reading scope.now tree.now) }
+{
+    if is_form_of_type(reading, tree) {
+        Ok(())
+    } else {
+        with_path(alloc, reading, scope, Path::of(tree), found)
     }
 }
 
@@ -133,12 +162,6 @@ pub fn with_own<'a>(
 ) -> Result<(), NoMemory>
     ensures { OnOk result (found.new ≡ found.old ++ spec.own_references (seen_visit visit.now)) }
 {
-    with_path(
-        alloc,
-        visit.reading,
-        &visit.scope,
-        Path::of(visit.tree),
-        found,
-    )?;
+    with_named(alloc, visit.reading, &visit.scope, visit.tree, found)?;
     with_declared(alloc, &visit.scope, visit.tree.get(), found)
 }

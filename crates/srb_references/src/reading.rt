@@ -13,19 +13,27 @@ pub enum Reading {
     SigBody,
     /// As a call of a signature's chain.
     Chain,
+    /// As a type expression.
+    TypeExpression,
+    /// As the C of a `T.class_of(C)`.
+    ClassName,
 }
 
-/// Which arguments of a call are read, and how.
+/// How the arguments of a call are read.
 #[derive(Clone, Copy, Debug)]
 pub enum Taken {
     /// All, as expressions.
     All,
     /// All, those by their places as mixins.
     Mixins,
-    /// Those by their places are types, which are not read.
-    NotPositional,
-    /// The keyword arguments are types, which are not read.
-    NotKeywords,
-    /// Where there are exactly two by their places, the second is a type, which is not read.
-    FirstOfTwo,
+    /// All, as type expressions.
+    Types,
+    /// Those by their places as type expressions.
+    TypesByPlace,
+    /// Those by their names as type expressions.
+    TypesByName,
+    /// Where there are exactly two, by their places, the second as a type expression.
+    SecondIsType,
+    /// Those by their places as names of classes.
+    ClassNames,
 }

@@ -2,11 +2,12 @@
 
 ghost use Rattle.std.specs.Prelude.{◌≡◌, ◌++◌, [], ◌∷◌, OnOk, map};
 ghost use Rattle.std.specs.List.{flat_map};
-ghost use Rattle.rb_views.specs.Calls as calls;
 ghost use Rattle.srb_references.specs.Readings as spec;
+ghost use Rattle.srb_references.specs.declared.reading.Reading.TheVariants.{TypeExpression};
 
 use crate::reading::{Reading, Taken};
 use crate::taken::{keyword_reading, positional_reading, taken_on};
+use crate::type_form::in_brackets;
 use crate::visit::Worklist;
 use rb_tree::syntax::{
     Argument, Arm, Block, Guarded, Pair, Parameter, Piece, Rescue, Suffix, Tree, When,
@@ -87,8 +88,8 @@ fn argument<'a>(
     ensures { OnOk result (list.new ≡ list.old ++ spec.argument_parts scope.now taken argument.now) }
 {
     match argument {
-        Argument::Positional { value } => part_if(list, scope, positional_reading(taken), value),
-        Argument::Keyword { value, .. } => part_if(list, scope, keyword_reading(taken), value),
+        Argument::Positional { value } => list.push(positional_reading(taken), scope, value),
+        Argument::Keyword { value, .. } => list.push(keyword_reading(taken), scope, value),
         Argument::Block { value, .. } => plain(list, scope, value),
     }
 }
@@ -108,6 +109,19 @@ pub fn row<'a>(
     Ok(())
 }
 
+/// Adds an expression and a type expression.
+fn asserted<'a>(
+    list: &mut Worklist<'a>,
+    scope: &Names,
+    value: &'a Tree,
+    given: &'a Tree,
+) -> Result<(), NoMemory>
+    ensures { OnOk result (list.new ≡ list.old ++ spec.plain scope.now value.now ∷ spec.visit TypeExpression scope.now given.now ∷ []) }
+{
+    plain(list, scope, value)?;
+    list.push(Reading::TypeExpression, scope, given)
+}
+
 /// Adds the values of the arguments of a call.
 fn arguments<'a>(
     list: &mut Worklist<'a>,
@@ -118,20 +132,14 @@ fn arguments<'a>(
     ensures { OnOk result (list.new ≡ list.old ++ spec.arguments_parts scope.now taken arguments.now) }
 {
     match (taken, arguments) {
-        (Taken::FirstOfTwo, [Argument::Positional { value }, Argument::Positional { .. }]) => plain(
-            list, scope, value,
-        ),
+        (
+            Taken::SecondIsType,
+            [
+                Argument::Positional { value },
+                Argument::Positional { value: given },
+            ],
+        ) => asserted(list, scope, value, given),
         _ => row(list, scope, taken, arguments),
-    }
-}
-
-/// The arguments in brackets; none where no brackets stand.
-pub fn in_brackets<'a>(arguments: &'a Option<Items<Argument<Tree>>>) -> &'a [Argument<Tree>]
-    ensures { result.now ≡ calls.arguments_of arguments.now }
-{
-    match arguments {
-        Some(items) => items.as_slice(),
-        None => &[],
     }
 }
 
@@ -183,7 +191,7 @@ fn suffix<'a>(
             block,
             ..
         } => {
-            let taken = taken_on(reading, on_t, *dot, name.as_str());
+            let taken = taken_on(reading, on_t, *dot, name.as_str(), block.is_some());
             call(
                 list,
                 scope,
@@ -212,6 +220,37 @@ pub fn suffixes<'a>(
     'suffixes: for each in suffixes {
         suffix(list, scope, reading, first, each)?;
         first = false;
+    }
+    Ok(())
+}
+
+/// Adds the arguments of a suffix of a type expression's form.
+fn form_suffix<'a>(
+    list: &mut Worklist<'a>,
+    scope: &Names,
+    taken: Taken,
+    suffix: &'a Suffix<Tree>,
+) -> Result<(), NoMemory>
+    ensures { OnOk result (list.new ≡ list.old ++ spec.form_suffix_parts scope.now taken suffix.now) }
+{
+    match suffix {
+        Suffix::Call { arguments, .. } => row(list, scope, taken, in_brackets(arguments)),
+        Suffix::Constant { .. } => Ok(()),
+        Suffix::Index { arguments, .. } => row(list, scope, taken, arguments.as_slice()),
+    }
+}
+
+/// Adds the arguments in a type expression of a form.
+pub fn form_suffixes<'a>(
+    list: &mut Worklist<'a>,
+    scope: &Names,
+    taken: Taken,
+    suffixes: &'a [Suffix<Tree>],
+) -> Result<(), NoMemory>
+    ensures { OnOk result (list.new ≡ list.old ++ flat_map (spec.form_suffix_parts scope.now taken) suffixes.now) }
+{
+    'suffixes: for each in suffixes {
+        form_suffix(list, scope, taken, each)?;
     }
     Ok(())
 }

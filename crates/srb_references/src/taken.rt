@@ -1,10 +1,12 @@
 //! How arguments, blocks and other parts are read.
 
 ghost use Rattle.std.specs.Prelude.{◌≡◌, option_map};
+ghost use Rattle.std.specs.List.{list_all};
 ghost use Rattle.rb_views.specs.Targets.{seen_callee};
 ghost use Rattle.srb_references.specs.Readings as spec;
 
 use crate::reading::{Reading, Taken};
+use crate::type_form::{TypeForm, begins_path, is_t};
 use rb_tree::syntax::{Dot, Node, Suffix, Tree};
 use rb_views::target::Callee;
 use srb_declarations::naming::mixin_named;
@@ -16,29 +18,6 @@ fn is_constant(tree: &Tree) -> bool
 {
     match tree.get() {
         Node::Constant { .. } => true,
-        _ => false,
-    }
-}
-
-/// Whether a tree is a constant, perhaps with `::` in front.
-#[tactic(auto, unfolding(crate::specs::Readings::begins_path))]
-fn begins_path(tree: &Tree) -> bool
-    ensures { result ≡ spec.begins_path tree.now }
-{
-    match tree.get() {
-        Node::Constant { .. } => true,
-        Node::TopConstant { .. } => true,
-        _ => false,
-    }
-}
-
-/// Whether a tree is the constant `T`.
-#[tactic(auto, unfolding(crate::specs::Readings::is_t))]
-pub fn is_t(tree: &Tree) -> bool
-    ensures { result ≡ spec.is_t tree.now }
-{
-    match tree.get() {
-        Node::Constant { name, .. } => name.as_str() == "T",
         _ => false,
     }
 }
@@ -62,11 +41,11 @@ fn is_plain_dot(dot: Dot) -> bool
     }
 }
 
-/// Whether a call is `T.let` or `T.cast`, where it is on `T`.
-fn asserts(on_t: bool, dot: Dot, name: &str) -> bool
-    ensures { result ≡ spec.asserts on_t dot name.now }
+/// Whether a call is `T.let` or `T.cast` without a block, where it is on `T`.
+fn asserts(on_t: bool, dot: Dot, name: &str, block: bool) -> bool
+    ensures { result ≡ spec.asserts on_t dot name.now block }
 {
-    if on_t && is_plain_dot(dot) {
+    if on_t && is_plain_dot(dot) && !block {
         if name == "let" { true } else { name == "cast" }
     } else {
         false
@@ -78,9 +57,9 @@ fn taken_in_chain(name: &str) -> Taken
     ensures { result ≡ spec.taken_in_chain name.now }
 {
     if name == "returns" {
-        Taken::NotPositional
+        Taken::TypesByPlace
     } else if name == "params" {
-        Taken::NotKeywords
+        Taken::TypesByName
     } else {
         Taken::All
     }
@@ -97,13 +76,51 @@ fn taken_by_name(reading: Reading, name: &str) -> Taken
 }
 
 /// How the arguments of a call on a receiver are read, which may be `T`.
-pub fn taken_on(reading: Reading, on_t: bool, dot: Dot, name: &str) -> Taken
-    ensures { result ≡ spec.taken_on reading on_t dot name.now }
+pub fn taken_on(reading: Reading, on_t: bool, dot: Dot, name: &str, block: bool) -> Taken
+    ensures { result ≡ spec.taken_on reading on_t dot name.now block }
 {
-    if asserts(on_t, dot, name) {
-        Taken::FirstOfTwo
+    if asserts(on_t, dot, name, block) {
+        Taken::SecondIsType
     } else {
         taken_by_name(reading, name)
+    }
+}
+
+/// Whether a suffix is a call.
+fn is_call(suffix: &Suffix<Tree>) -> bool
+    ensures { result ≡ spec.is_call suffix.now }
+{
+    match suffix {
+        Suffix::Call { .. } => true,
+        _ => false,
+    }
+}
+
+/// Whether suffixes are calls alone.
+fn all_calls(suffixes: &[Suffix<Tree>]) -> bool
+    ensures { result ≡ list_all spec.is_call suffixes.now }
+{
+    for suffix in suffixes {
+        if !is_call(suffix) {
+            return false;
+        }
+    }
+    true
+}
+
+/// How what these suffixes make is read: in a signature's chain there are calls alone.
+pub fn row_reading(reading: Reading, suffixes: &[Suffix<Tree>]) -> Reading
+    ensures { result ≡ spec.row_reading reading suffixes.now }
+{
+    match reading {
+        Reading::Chain => {
+            if all_calls(suffixes) {
+                Reading::Chain
+            } else {
+                Reading::Plain
+            }
+        }
+        _ => reading,
     }
 }
 
@@ -134,33 +151,59 @@ pub fn taken_by_callee<'a>(reading: Reading, callee: Option<Callee<'a>>, block: 
                 ..
             },
         ) => taken_on(
-            reading,
+            row_reading(reading, receiver.suffixes),
             is_t_alone(receiver.operand, receiver.suffixes),
             dot,
             name.as_str(),
+            block,
         ),
         _ => Taken::All,
     }
 }
 
-/// How an argument by its place is read. `None` exactly where it isn't.
-pub fn positional_reading(taken: Taken) -> Option<Reading>
-    ensures { result ≡ spec.positional_reading taken }
+/// How the arguments in a type expression of this form are read. `None` exactly where the form has no such arguments, or isn't one.
+fn taken_of_form(form: TypeForm) -> Option<Taken>
+    ensures { result ≡ spec.taken_of_form form }
 {
-    match taken {
-        Taken::Mixins => Some(Reading::Mixin),
-        Taken::NotPositional => None,
-        _ => Some(Reading::Plain),
+    match form {
+        TypeForm::Path => None,
+        TypeForm::Other => None,
+        TypeForm::ClassOf => Some(Taken::ClassNames),
+        _ => Some(Taken::Types),
     }
 }
 
-/// How a keyword argument is read. `None` exactly where it isn't.
-pub fn keyword_reading(taken: Taken) -> Option<Reading>
+/// The same, where it is read as a type expression.
+pub fn taken_in_type(reading: Reading, form: TypeForm) -> Option<Taken>
+    ensures { result ≡ spec.taken_in_type reading form }
+{
+    match reading {
+        Reading::TypeExpression => taken_of_form(form),
+        _ => None,
+    }
+}
+
+/// How an argument by its place is read.
+pub fn positional_reading(taken: Taken) -> Reading
+    ensures { result ≡ spec.positional_reading taken }
+{
+    match taken {
+        Taken::Mixins => Reading::Mixin,
+        Taken::Types => Reading::TypeExpression,
+        Taken::TypesByPlace => Reading::TypeExpression,
+        Taken::ClassNames => Reading::ClassName,
+        _ => Reading::Plain,
+    }
+}
+
+/// How a keyword argument is read.
+pub fn keyword_reading(taken: Taken) -> Reading
     ensures { result ≡ spec.keyword_reading taken }
 {
     match taken {
-        Taken::NotKeywords => None,
-        _ => Some(Reading::Plain),
+        Taken::Types => Reading::TypeExpression,
+        Taken::TypesByName => Reading::TypeExpression,
+        _ => Reading::Plain,
     }
 }
 

@@ -22,7 +22,7 @@ fn with_parts<'a>(alloc: Global, visit: &Visit<'a>, list: &mut Worklist<'a>) -> 
     parts(alloc, list, visit.reading, &visit.scope, visit.tree.get())
 }
 
-/// The constant references of a program outside type expressions, each once. Their order has no meaning.
+/// The constant references of a program, each once. Their order has no meaning.
 #[tactic(auto, unfolding(crate::specs::References::references_of))]
 pub fn references(alloc: Global, tree: &Tree) -> Result<Items<Reference>, NoMemory>
     ensures { IfOk result (λ rs. rs ≡ spec.references_of tree.now) }

@@ -25,7 +25,8 @@ use Rattle.srb_references.specs.declared.reading.Reading.{Reading}
 use Rattle.srb_references.specs.declared.reading.Reading.TheVariants as reading
 use Rattle.srb_references.specs.declared.reading.Taken.{Taken}
 use Rattle.srb_references.specs.declared.reading.Taken.TheVariants as taken
-use Rattle.srb_references.specs.Readings.{Visit, visit, plain, if_any, part_if, argument_parts, row_parts, arguments_parts, block_parts, call_parts, suffix_parts, suffixes_parts, piece_parts, pair_parts, arm_parts, when_parts, rescue_parts, guarded_parts, parameter_parts, parts, positional_reading, keyword_reading, is_single, statement_reading, receiver_reading, target_reading, taken_by_callee, taken_by_self, taken_on, block_by_callee, block_by_self, is_t}
+use Rattle.srb_references.specs.Readings.{Visit, visit, plain, if_any, part_if, argument_parts, row_parts, arguments_parts, block_parts, call_parts, suffix_parts, suffixes_parts, piece_parts, pair_parts, arm_parts, when_parts, rescue_parts, guarded_parts, parameter_parts, parts, form_suffix_parts, post_parts, is_single, statement_reading, receiver_reading, row_reading, target_reading, taken_by_callee, taken_by_self, taken_in_type, taken_on, block_by_callee, block_by_self}
+use Rattle.srb_references.specs.TypeForms.{is_t, post_form}
 
 -- ---- lists
 
@@ -127,8 +128,8 @@ module _ (P : Tree → Type 0) where
     part-all (Some m) x h = (h, tt)
 
     argument-all : (how : Taken) (a : Argument Tree) → OfArgument a → All (argument_parts scope how a)
-    argument-all how (argument.Positional value) h = part-all (positional_reading how) value h
-    argument-all how (argument.Keyword name span value) h = part-all (keyword_reading how) value h
+    argument-all how (argument.Positional value) h = (h, tt)
+    argument-all how (argument.Keyword name span value) h = (h, tt)
     argument-all how (argument.Block span value) h = (h, tt)
 
     row-all : (how : Taken) (xs : List (Argument Tree)) → Each OfArgument xs → All (row_parts scope how xs)
@@ -137,19 +138,21 @@ module _ (P : Tree → Type 0) where
     arguments-all : (how : Taken) (xs : List (Argument Tree)) → Each OfArgument xs → All (arguments_parts scope how xs)
     arguments-all taken.All xs h = row-all taken.All xs h
     arguments-all taken.Mixins xs h = row-all taken.Mixins xs h
-    arguments-all taken.NotPositional xs h = row-all taken.NotPositional xs h
-    arguments-all taken.NotKeywords xs h = row-all taken.NotKeywords xs h
-    arguments-all taken.FirstOfTwo [] h = tt
-    arguments-all taken.FirstOfTwo (argument.Positional value ∷ []) h = (h.0, tt)
-    arguments-all taken.FirstOfTwo (argument.Positional value ∷ argument.Positional type ∷ []) h = (h.0, tt)
-    arguments-all taken.FirstOfTwo (argument.Positional value ∷ argument.Positional type ∷ x ∷ xs) h =
-        row-all taken.FirstOfTwo (argument.Positional value ∷ argument.Positional type ∷ x ∷ xs) h
-    arguments-all taken.FirstOfTwo (argument.Positional value ∷ argument.Keyword name span other ∷ xs) h =
-        row-all taken.FirstOfTwo (argument.Positional value ∷ argument.Keyword name span other ∷ xs) h
-    arguments-all taken.FirstOfTwo (argument.Positional value ∷ argument.Block span other ∷ xs) h =
-        row-all taken.FirstOfTwo (argument.Positional value ∷ argument.Block span other ∷ xs) h
-    arguments-all taken.FirstOfTwo (argument.Keyword name span value ∷ xs) h = row-all taken.FirstOfTwo (argument.Keyword name span value ∷ xs) h
-    arguments-all taken.FirstOfTwo (argument.Block span value ∷ xs) h = row-all taken.FirstOfTwo (argument.Block span value ∷ xs) h
+    arguments-all taken.Types xs h = row-all taken.Types xs h
+    arguments-all taken.TypesByPlace xs h = row-all taken.TypesByPlace xs h
+    arguments-all taken.TypesByName xs h = row-all taken.TypesByName xs h
+    arguments-all taken.ClassNames xs h = row-all taken.ClassNames xs h
+    arguments-all taken.SecondIsType [] h = tt
+    arguments-all taken.SecondIsType (argument.Positional value ∷ []) h = (h.0, tt)
+    arguments-all taken.SecondIsType (argument.Positional value ∷ argument.Positional type ∷ []) h = (h.0, (h.1.0, tt))
+    arguments-all taken.SecondIsType (argument.Positional value ∷ argument.Positional type ∷ x ∷ xs) h =
+        row-all taken.SecondIsType (argument.Positional value ∷ argument.Positional type ∷ x ∷ xs) h
+    arguments-all taken.SecondIsType (argument.Positional value ∷ argument.Keyword name span other ∷ xs) h =
+        row-all taken.SecondIsType (argument.Positional value ∷ argument.Keyword name span other ∷ xs) h
+    arguments-all taken.SecondIsType (argument.Positional value ∷ argument.Block span other ∷ xs) h =
+        row-all taken.SecondIsType (argument.Positional value ∷ argument.Block span other ∷ xs) h
+    arguments-all taken.SecondIsType (argument.Keyword name span value ∷ xs) h = row-all taken.SecondIsType (argument.Keyword name span value ∷ xs) h
+    arguments-all taken.SecondIsType (argument.Block span value ∷ xs) h = row-all taken.SecondIsType (argument.Block span value ∷ xs) h
 
     block-all : (m : Reading) (b : Option (Block Tree)) → IfThere OfBlock b → All (block_parts scope m b)
     block-all m None h = tt
@@ -164,7 +167,7 @@ module _ (P : Tree → Type 0) where
 
     suffix-all : (m : Reading) (on_t : Bool) (s : Suffix Tree) → OfSuffix s → All (suffix_parts scope m on_t s)
     suffix-all m on_t (suffix.Call how name name_span arguments block span) h =
-        call-all (taken_on m on_t how name) (arguments_of arguments) reading.Plain block (given-all arguments h.0) h.1
+        call-all (taken_on m on_t how name (is_some block)) (arguments_of arguments) reading.Plain block (given-all arguments h.0) h.1
     suffix-all m on_t (suffix.Constant name name_span span) h = tt
     suffix-all m on_t (suffix.Index arguments span) h = row-all taken.All arguments h
 
@@ -172,6 +175,18 @@ module _ (P : Tree → Type 0) where
     suffixes-all m on_t [] h = tt
     suffixes-all m on_t (s ∷ ss) h =
         each-append OfVisit (suffix_parts scope m on_t s) (suffixes_parts scope m false ss) (suffix-all m on_t s h.0) (suffixes-all m false ss h.1)
+
+    form-suffix-all : (how : Taken) (s : Suffix Tree) → OfSuffix s → All (form_suffix_parts scope how s)
+    form-suffix-all how (suffix.Call dotted name name_span arguments block span) h = row-all how (arguments_of arguments) (given-all arguments h.0)
+    form-suffix-all how (suffix.Constant name name_span span) h = tt
+    form-suffix-all how (suffix.Index arguments span) h = row-all how arguments h
+
+    post-all : (how : Option Taken) (m : Reading) (receiver : Tree) (ss : List (Suffix Tree)) → P receiver → Each OfSuffix ss →
+        All (post_parts scope how m receiver receiver ss)
+    post-all (Some how) m receiver ss h k = each-flat OfSuffix OfVisit (form_suffix_parts scope how) (form-suffix-all how) ss k
+    post-all None m receiver ss h k =
+        each-append OfVisit (part_if scope (receiver_reading m receiver) receiver) (suffixes_parts scope m (is_t receiver) ss)
+        (part-all (receiver_reading m receiver) receiver h) (suffixes-all m (is_t receiver) ss k)
 
     piece-all : (p : Piece Tree) → OfPiece p → All (piece_parts scope p)
     piece-all (piece.Words words span) h = tt
@@ -218,8 +233,7 @@ module _ (P : Tree → Type 0) where
     parts-all m (Node-F.Binary operator operator_span left right span) h = (h.0, (h.1, tt))
     parts-all m (Node-F.Unary operator operand span) h = (h, tt)
     parts-all m (Node-F.Post receiver suffixes span) h =
-        each-append OfVisit (part_if scope (receiver_reading m receiver) receiver) (suffixes_parts scope m (is_t receiver) suffixes)
-        (part-all (receiver_reading m receiver) receiver h.0) (suffixes-all m (is_t receiver) suffixes h.1)
+        post-all (taken_in_type m (post_form (λ t. t) receiver suffixes)) (row_reading m suffixes) receiver suffixes h.0 h.1
     parts-all m (Node-F.Text pieces span) h = each-flat OfPiece OfVisit (piece_parts scope) piece-all pieces h
     parts-all m (Node-F.Call name name_span arguments block span) h =
         call-all (taken_by_self m name (is_some block)) (arguments_of arguments) (block_by_self m name) block (given-all arguments h.0) h.1

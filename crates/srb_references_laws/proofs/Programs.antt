@@ -1,5 +1,5 @@
 -- The references of a program stand at its tokens, by induction over derivations: what is read below a tree is told by its node.
-use Rattle.std.proofs.Common.{◌≡◌, ℕ, zero, suc, ◌-◌, Bool, List, [], ◌∷◌, ◌++◌, length, take, Option, Some, None, sym, ap, subst, ◌∙◌}
+use Rattle.std.proofs.Common.{◌≡◌, ℕ, zero, suc, ◌-◌, Bool, true, false, if◌then◌else◌, List, [], ◌∷◌, ◌++◌, length, take, Option, Some, None, sym, ap, subst, ◌∙◌}
 use Rattle.srb_terms.specs.declared.span.Span.{Span}
 use Rattle.rb_tree.specs.Trees.{span_of, span_at, span_of_node}
 use Rattle.rb_tree.specs.declared.token.Token.{Token}
@@ -88,7 +88,7 @@ use Rattle.srb_references.specs.declared.reading.Reading.{Reading}
 use Rattle.srb_references.specs.declared.reading.Reading.TheVariants as reading
 use Rattle.srb_references.specs.declared.reference.Reference.{Reference}
 use Rattle.srb_references.specs.Readings.{Visit, visit, parts}
-use Rattle.srb_references.specs.References.{visits_of, row_visits, below, below_by_node, visits, path_references, superclass_references, front_references, front_of, declared_references, own_references, references_of}
+use Rattle.srb_references.specs.References.{visits_of, row_visits, below, below_by_node, visits, path_references, named_references, is_form_of_type, superclass_references, front_references, front_of, declared_references, own_references, references_of}
 use Rattle.srb_references.proofs.Equations.{below_is}
 use Rattle.srb_references_laws.proofs.Parts.{each-append, each-flat, OfArgument, OfBlock, OfSuffix, OfPiece, OfPair, OfArm, OfWhen, OfRescue, OfGuarded, OfParameter, OfNode, OfVisit, parts-all}
 use Rattle.srb_references_laws.specs.Placed.{IsInOrder, ProgramsReferAtTokens}
@@ -180,14 +180,21 @@ module _ (tokens : List Token) where
   path-refers m scope None h = tt
   path-refers m scope (Some p) h = (h, tt)
 
+  named-by : (form : Bool) (rs : List Reference) → Refer rs → Refer (if form then [] else rs)
+  named-by true rs h = tt
+  named-by false rs h = h
+
+  named-refer : (m : Reading) (scope : List (List ℕ)) (t : Tree) → IfThere IsPathPlaced (path_of t) → Refer (named_references m scope t)
+  named-refer m scope t h = named-by (is_form_of_type m t) (path_references m scope (path_of t)) (path-refers m scope (path_of t) h)
+
   -- what a class or module refers to where it is declared stands at the tokens
   abbrev IsHeadFine : Node-F Node Tree → Type 0
   IsHeadFine r = (scope : List (List ℕ)) → Refer (declared_references scope r)
 
   own-fine : (t : Tree) (r : Node-F Node Tree) → out-Node t.node ≡ r → IsStartFine r → IsHeadFine r → (m : Reading) (scope : List (List ℕ)) → IsVisitFine (visit m scope t)
   unfolding own_references
-  own-fine t r e k d m scope = each-append Placed (path_references m scope (path_of t)) (declared_references scope (out-Node t.node))
-      (path-refers m scope (path_of t) (start-opened t r e k)) (subst (λ n. Refer (declared_references scope n)) (sym e) (d scope))
+  own-fine t r e k d m scope = each-append Placed (named_references m scope t) (declared_references scope (out-Node t.node))
+      (named-refer m scope t (start-opened t r e k)) (subst (λ n. Refer (declared_references scope n)) (sym e) (d scope))
 
   row-fine : (vs : List (Visit Tree)) → Each (OfVisit Fine) vs → Each IsVisitFine (row_visits (λ x. x) below vs)
   row-fine [] h = tt

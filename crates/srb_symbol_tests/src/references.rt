@@ -100,12 +100,23 @@ fn classes_and_modules_refer(rt: HostRuntime) -> Result<(), AllocError> {
 }
 
 #[test]
-fn types_are_no_references(rt: HostRuntime) -> Result<(), AllocError> {
+fn types_refer(rt: HostRuntime) -> Result<(), AllocError> {
     for (text, wanted) in [
-        ("T.let(a, A)\n", "= T;"),
-        ("T.let(A, B)\n", "= A;= T;"),
-        ("x = T.cast(a, A).b(B)\n", "= B;= T;"),
-        ("T.let a, A\n", "= T;"),
+        ("T.let(a, A)\n", "= A;= T;"),
+        ("T.let(A, B)\n", "= A;= B;= T;"),
+        ("x = T.cast(a, A).b(B)\n", "= A;= B;= T;"),
+        ("T.let a, A\n", "= T;= A;"),
+        ("T.let(a, T::Array[A])\n", "= A;= T;"),
+        ("T.let(a, T::Array[A, B])\n", "= A;= B;= T Array;= T;"),
+        ("T.let(a, T.class_of(T::Boolean))\n", "= T Boolean;= T;"),
+        (
+            "T.let(a, T::Boolean)\nT.let(a, T::Boolean) { }\n",
+            "= T;= T Boolean;= T;",
+        ),
+        (
+            "T.let(a, T.proc.params(b: A, c: T.untyped).returns(T.any(B, ::C)))\n",
+            "= A;= B;=  C;= T;",
+        ),
         (
             "T.let(a, A, B)\nT.let(a, b: B)\nT.must(A, B)\n",
             "= A;= B;= T;= B;= T;= A;= B;= T;",
@@ -116,23 +127,27 @@ fn types_are_no_references(rt: HostRuntime) -> Result<(), AllocError> {
         ),
         (
             "class A\n  sig { params(a: B).returns(C) }\n  sig { void }\nend\n",
-            "",
+            "= B @A;= C @A;",
         ),
         (
             "class A\n  sig { returns(b: B, c: C).params(D, e: E) }\nend\n",
-            "= B @A;= C @A;= D @A;",
+            "= B @A;= C @A;= D @A;= E @A;",
         ),
         (
             "class A\n  sig { override.returns(B) }\n  sig do\n    returns C\n  end\nend\n",
-            "",
+            "= B @A;= C @A;",
         ),
         (
             "class A\n  sig(B) { returns(C) { D } }\nend\n",
-            "= B @A;= D @A;",
+            "= B @A;= C @A;= D @A;",
         ),
         (
             "class A\n  sig { returns(B); returns(C) }\nend\n",
             "= B @A;= C @A;",
+        ),
+        (
+            "class A\n  sig { void.params(b: T::Boolean)[0] }\nend\n",
+            "= T Boolean @A;",
         ),
         (
             "class A\n  sig { [returns(B)] }\n  sig { checked(C) }\nend\n",
@@ -140,7 +155,7 @@ fn types_are_no_references(rt: HostRuntime) -> Result<(), AllocError> {
         ),
         (
             "class A\n  sig { B.returns(C) }\n  sig { T.let(D, E) }\nend\n",
-            "= B @A;= D @A;= T @A;",
+            "= C @A;= B @A;= D @A;= E @A;= T @A;",
         ),
         (
             "sig { returns(B) }\nclass A\n  f { sig { returns(C) } }\nend\n",

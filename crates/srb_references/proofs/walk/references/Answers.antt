@@ -11,5 +11,5 @@ list-smaller c = falls c.list.list c.pop.new.self c.with_parts.new.list (seen_vi
 pub list-preserved : goal.list-preserved
 list-preserved c =
     ap (λ f. f ++ flat_map own_references (row_visits (λ x. x) below c.with_parts.new.list)) c.in_ok-with_own.ensures
-    ∙ keeps c.list.found c.list.list c.pop.new.self c.with_parts.new.list (seen_visit c.in-Some.visit) c.in-Some.ensures c.in_ok-with_parts.ensures
+    ∙ keeps own_references c.list.found c.list.list c.pop.new.self c.with_parts.new.list (seen_visit c.in-Some.visit) c.in-Some.ensures c.in_ok-with_parts.ensures
     ∙ c.list.invariant
