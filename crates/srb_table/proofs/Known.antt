@@ -19,7 +19,7 @@ use Rattle.srb_rules.specs.Lookup.{looked_up}
 use Rattle.srb_rules.specs.Parents.{Reference, alone_by, deciding, extended_in, extended_of, inherited, inherited_by, links, mixed_by, mixed_in, parent_named, superclass_by, superclass_of, link_in}
 use Rattle.srb_rules.specs.Values.{is_value, last_type, value_type}
 use Rattle.srb_table.specs.Names.{KnowsNames}
-use Rattle.srb_table.specs.Steps.{deciding_after, entry_after, extended_after, extended_entry, facts_of, inherited_at, inner_after, kind_after, lin_entry, links_after, mixed_at, parent_at, super_entry, value_after}
+use Rattle.srb_table.specs.Steps.{deciding_after, entry_after, extended_after, extended_entry, facts_of, inherited_at, inner_after, kind_after, lin_entry, links_after, mixed_at, parent_at, super_entry, unread, value_after}
 use Rattle.srb_table.proofs.Passes.{by_files, deciding-told, entries-told, extended-told, inner-told, kinds-told, links-told, values-told}
 
 -- a pass over the first file and then over the others
@@ -129,12 +129,12 @@ module _ (w : World) (first : List Fact) (files : List (List Fact)) (known : Kno
   pub staged-values : (old mid new : List ℕ → Option Ty) → ((c : List ℕ) → old c ≡ None)
       → ((c : List ℕ) → mid c ≡ fold (value_after w c) (old c) first)
       → ((c : List ℕ) → new c ≡ fold (fold (value_after w c)) (mid c) files)
-      → (c : List ℕ) → new c ≡ value_type (facts_of first files) c
+      → (c : List ℕ) → new c ≡ value_type unread (facts_of first files) c
   unfolding value_type
   staged-values old mid new empty one two c =
       two-passes (value_after w c) None (mid c) (new c) first files (one c ∙ ap (λ o. fold (value_after w c) o first) (empty c)) (two c)
       ∙ values-told w c (facts_of first files)
-      ∙ ap (λ k. cond (is_value k) (last_type c (facts_of first files)) None) (known.kinds c)
+      ∙ ap (λ k. cond (is_value k) (last_type unread c (facts_of first files)) None) (known.kinds c)
 
   pub staged-lins : (lins : List ℕ → Option (List (List ℕ))) → ((c : List ℕ) → unwrap_or (lins c) (c ∷ []) ≡ lin_of (counted (links (facts_of first files))) c)
       → (old mid new : List ℕ → Option (List (List ℕ))) → ((c : List ℕ) → old c ≡ None)

@@ -17,7 +17,7 @@ use Rattle.srb_rules.specs.declared.link.Link.{Link}
 use Rattle.srb_rules.specs.Kinds.{body_kind, is_body, is_value_of, kind_of}
 use Rattle.srb_rules.specs.Parents.{Reference, extended_in, first_superclass, link_in}
 use Rattle.srb_rules.specs.Values.{given_type, is_value, last_type}
-use Rattle.srb_table.specs.Steps.{all_facts, appended, deciding_after, entry_after, extended_after, inner_after, kind_after, links_after, listed, value_after, with_body}
+use Rattle.srb_table.specs.Steps.{all_facts, appended, deciding_after, entry_after, extended_after, inner_after, kind_after, links_after, listed, unread, value_after, with_body}
 
 -- ---- files
 
@@ -323,22 +323,22 @@ skip true (Some l) old = refl
 skip false later old = refl
 
 values-from : (w : World) (c : List ℕ) (old : Option Ty) (fs : List Fact)
-    → fold (value_after w c) old fs ≡ cond (is_value (kind_at w c)) (option_or (last_type c fs) old) old
+    → fold (value_after w c) old fs ≡ cond (is_value (kind_at w c)) (option_or (last_type unread c fs) old) old
 values-from w c old [] = at-end (is_value (kind_at w c))
   where
     at-end : (v : Bool) → old ≡ cond v old old
     at-end true = refl
     at-end false = refl
 values-from w c old (Value name scope given ∷ fs) =
-    values-from w c (cond (bytes_eq name c) (cond (is_value (kind_at w name)) (Some (given_type given)) old) old) fs
-    ∙ value-one w name c (given_type given) old (last_type c fs)
-values-from w c old (Scope name kind ∷ fs) = values-from w c old fs ∙ skip (is_value (kind_at w c)) (last_type c fs) old
-values-from w c old (Parent of scope path how ∷ fs) = values-from w c old fs ∙ skip (is_value (kind_at w c)) (last_type c fs) old
-values-from w c old (Method owner scope meta m params sig ∷ fs) = values-from w c old fs ∙ skip (is_value (kind_at w c)) (last_type c fs) old
-values-from w c old (Ivar owner scope meta m given ∷ fs) = values-from w c old fs ∙ skip (is_value (kind_at w c)) (last_type c fs) old
+    values-from w c (cond (bytes_eq name c) (cond (is_value (kind_at w name)) (Some (given_type unread scope given)) old) old) fs
+    ∙ value-one w name c (given_type unread scope given) old (last_type unread c fs)
+values-from w c old (Scope name kind ∷ fs) = values-from w c old fs ∙ skip (is_value (kind_at w c)) (last_type unread c fs) old
+values-from w c old (Parent of scope path how ∷ fs) = values-from w c old fs ∙ skip (is_value (kind_at w c)) (last_type unread c fs) old
+values-from w c old (Method owner scope meta m params sig ∷ fs) = values-from w c old fs ∙ skip (is_value (kind_at w c)) (last_type unread c fs) old
+values-from w c old (Ivar owner scope meta m given ∷ fs) = values-from w c old fs ∙ skip (is_value (kind_at w c)) (last_type unread c fs) old
 
-pub values-told : (w : World) (c : List ℕ) (fs : List Fact) → fold (value_after w c) None fs ≡ cond (is_value (kind_at w c)) (last_type c fs) None
-values-told w c fs = values-from w c None fs ∙ at-end (is_value (kind_at w c)) (last_type c fs)
+pub values-told : (w : World) (c : List ℕ) (fs : List Fact) → fold (value_after w c) None fs ≡ cond (is_value (kind_at w c)) (last_type unread c fs) None
+values-told w c fs = values-from w c None fs ∙ at-end (is_value (kind_at w c)) (last_type unread c fs)
   where
     at-end : (v : Bool) (last : Option Ty) → cond v (option_or last None) None ≡ cond v last None
     at-end true None = refl

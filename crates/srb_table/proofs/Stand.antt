@@ -6,20 +6,17 @@ use Rattle.srb_terms.specs.declared.fact.Fact.{Fact}
 use Rattle.srb_terms.specs.declared.world.World.{World}
 use Rattle.srb_rules.specs.Kinds.{within_of}
 use Rattle.srb_rules.specs.Standing.{Stands}
-use Rattle.srb_table.specs.Names.{AreTables, HasNoMembers, IsFilled, KnowsNames}
+use Rattle.srb_table.specs.Names.{AreTables, HasNoMembers, IsFilled, KnowsNames, TellsValues}
 use Rattle.srb_table.specs.declared.world.Tables.{Tables}
 
-pub stands-filled : (w v : World) (t : Tables) (fs : List Fact) → KnowsNames w fs → HasNoMembers w → AreTables t fs → IsFilled w t v → Stands v fs
-stands-filled w v t fs known members tables same = record {
+pub stands-filled : (w v : World) (t : Tables) (fs : List Fact) → KnowsNames w fs → AreTables t fs → IsFilled w t v → Stands v fs
+stands-filled w v t fs known tables same = record {
   kinds = λ c. ap (λ m. value_of c m.entries) same.0 ∙ known.kinds c;
   names = names;
   lins = λ c. ap (λ m. value_of c m.entries) same.3 ∙ tables.ancestry.linked.lins c;
   superclasses = λ c. ap (λ m. value_of c m.entries) same.2 ∙ tables.ancestry.superclasses c;
   extends = λ c. ap (λ m. value_of c m.entries) same.4 ∙ tables.extended c;
   circles = λ c d. ap (λ m. is_among d (value_of c m.entries)) same.5 ∙ tables.ancestry.linked.circles c d;
-  methods = methods;
-  ivars = ivars;
-  values = λ c. ap (λ m. value_of c m.entries) same.6 ∙ tables.values c;
 }
   where
     names : (scope : Option (List ℕ)) (last : List ℕ) → within_at v scope last ≡ within_of fs scope last
@@ -28,6 +25,13 @@ stands-filled w v t fs known members tables same = record {
         (λ i. cond (has_colon last) (lookup_key (bytes_eq (joined scope last)) (same.0 i).entries) (inner_at scope last (same.1 i).entries))
         ∙ known.names (Some scope) last
 
+pub values-filled : (w v : World) (t : Tables) (fs : List Fact) → HasNoMembers w → AreTables t fs → IsFilled w t v → TellsValues v fs
+values-filled w v t fs members tables same = record {
+  methods = methods;
+  ivars = ivars;
+  values = λ c. ap (λ m. value_of c m.entries) same.6 ∙ tables.values c;
+}
+  where
     methods : (owner : List ℕ) (meta : Bool) (name : List ℕ) → method_at v owner meta name ≡ None
     methods owner true name = ap (λ m. inner_at owner name m.entries) same.8 ∙ ap (inner_at owner name) members.1
     methods owner false name = ap (λ m. inner_at owner name m.entries) same.7 ∙ ap (inner_at owner name) members.0

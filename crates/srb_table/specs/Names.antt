@@ -1,6 +1,6 @@
 -- A table that knows the names of some facts and their kinds, by which superclasses and mixins are looked up.
-use Rattle.std.specs.Prelude.{◌≡◌, ℕ, List, [], Option}
-use Rattle.srb_terms.specs.Worlds.{is_among, kind_at, value_of, within_at}
+use Rattle.std.specs.Prelude.{◌≡◌, ℕ, Bool, List, [], Option, None}
+use Rattle.srb_terms.specs.Worlds.{is_among, ivar_at, kind_at, method_at, value_at, value_of, within_at}
 use Rattle.srb_terms.specs.declared.fact.Fact.{Fact}
 use Rattle.srb_terms.specs.declared.world.World.{World}
 use Rattle.srb_rules.specs.Circles.{circle_of}
@@ -8,6 +8,7 @@ use Rattle.srb_rules.specs.Kinds.{kind_of, within_of}
 use Rattle.srb_rules.specs.Parents.{extended_of, superclass_of}
 use Rattle.srb_rules.specs.Resolves.{lin_in}
 use Rattle.srb_rules.specs.Values.{value_type}
+use Rattle.srb_table.specs.Steps.{unread}
 use Rattle.srb_table.specs.declared.world.Ancestry.{Ancestry}
 use Rattle.srb_table.specs.declared.world.Linked.{Linked}
 use Rattle.srb_table.specs.declared.world.Tables.{Tables}
@@ -34,7 +35,7 @@ pub record AreAncestry (t : Ancestry) (fs : List Fact) : Type 0 where
 pub record AreTables (t : Tables) (fs : List Fact) : Type 0 where
   pub ancestry : AreAncestry t.ancestry fs
   pub extended : (c : List ℕ) → value_of c t.extended.entries ≡ extended_of fs c
-  pub values : (c : List ℕ) → value_of c t.values.entries ≡ value_type fs c
+  pub values : (c : List ℕ) → value_of c t.values.entries ≡ value_type unread fs c
 
 -- v is w with the tables t
 abbrev pub IsFilled : World → Tables → World → Type 0
@@ -42,3 +43,9 @@ IsFilled w t v =
     (v.kinds ≡ w.kinds) × (v.inner ≡ w.inner) × (v.superclasses ≡ t.ancestry.superclasses) × (v.lins ≡ t.ancestry.linked.lins) × (v.extended ≡ t.extended)
     × (v.circles ≡ t.ancestry.linked.circles) × (v.values ≡ t.values) × (v.methods ≡ w.methods) × (v.own_methods ≡ w.own_methods) × (v.ivars ≡ w.ivars)
     × (v.own_ivars ≡ w.own_ivars)
+
+-- The table tells no method and no instance variable yet, and of each value constant the type that the facts give, but for one that is written out.
+pub record TellsValues (w : World) (fs : List Fact) : Type 0 where
+  pub methods : (owner : List ℕ) (meta : Bool) (name : List ℕ) → method_at w owner meta name ≡ None
+  pub ivars : (owner : List ℕ) (meta : Bool) (name : List ℕ) → ivar_at w owner meta name ≡ None
+  pub values : (c : List ℕ) → value_at w c ≡ value_type unread fs c

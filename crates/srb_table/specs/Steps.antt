@@ -15,7 +15,8 @@ use Rattle.srb_rules.specs.declared.position.Position.TheVariants as position
 use Rattle.srb_rules.specs.Kinds.{is_body}
 use Rattle.srb_rules.specs.Parents.{Reference, inherited_by, link_in, mixed_by, superclass_by}
 use Rattle.srb_rules.specs.Standing.{resolved_at}
-use Rattle.srb_rules.specs.Values.{given_type, is_value}
+use Rattle.srb_rules.specs.Values.{Reads, given_type, is_value}
+use Rattle.srb_terms.specs.declared.ty.Ty.TheVariants as ty
 
 -- the facts of some files as one list
 abbrev pub all_facts : List (List Fact) → List Fact
@@ -102,10 +103,14 @@ extended_entry w extends c = if is_body (kind_at w c) then Some (unwrap_or (exte
 
 -- ---- value constants
 
+-- a type that is written out is not read yet
+abbrev pub unread : Reads
+unread scope text = ty.Untyped
+
 -- the type of the value constant c: the last one counts
 abbrev pub value_after : World → List ℕ → Option Ty → Fact → Option Ty
 value_after w c old (Value name scope given) =
-    if bytes_eq name c then (if is_value (kind_at w name) then Some (given_type given) else old) else old
+    if bytes_eq name c then (if is_value (kind_at w name) then Some (given_type unread scope given) else old) else old
 value_after w c old _ = old
 
 -- ---- circles

@@ -7,7 +7,7 @@ ghost use Rattle.srb_rules.specs.Links.{circular_links};
 ghost use Rattle.srb_rules.specs.Parents as parents;
 ghost use Rattle.srb_rules.specs.Values.{value_type};
 ghost use Rattle.srb_table.specs.Names.{KnowsNames};
-ghost use Rattle.srb_table.specs.Steps.{facts_of};
+ghost use Rattle.srb_table.specs.Steps.{facts_of, unread};
 ghost use Rattle.srb_terms.specs.Worlds.{has_colon, inner_at, is_among, joined};
 ghost use Rattle.srb_terms.specs.declared.fact.Fact as fact_type;
 
@@ -145,7 +145,7 @@ pub fn all_values(
     first: &[Fact],
     files: &[Summary],
 ) -> Result<IndexMap<Name, Ty>, NoMemory>
-    ensures { IfOk result (λ t. KnowsNames w.now (facts_of first.now files.now) → (c : List ℕ) → get bytes_eq t c ≡ value_type (facts_of first.now files.now) c) }
+    ensures { IfOk result (λ t. KnowsNames w.now (facts_of first.now files.now) → (c : List ℕ) → get bytes_eq t c ≡ value_type unread (facts_of first.now files.now) c) }
 {
     let mut table = IndexMap::new(alloc);
     add_values_of_file(w, &mut table, first)?;

@@ -4,7 +4,7 @@ ghost use Rattle.std.specs.Option.{option_copied, option_or};
 ghost use Rattle.indexmap.specs.IndexMap.{get};
 ghost use Rattle.srb_rules.specs.Values.{given_type, is_value};
 ghost use Rattle.srb_terms.specs.Worlds.{kind_at};
-ghost use Rattle.srb_table.specs.Steps.{value_after};
+ghost use Rattle.srb_table.specs.Steps.{unread, value_after};
 
 use indexmap::IndexMap;
 use srb_summary::Summary;
@@ -62,7 +62,7 @@ fn add(
     name: &Name,
     given: &Given,
 ) -> Result<(), NoMemory>
-    ensures { OnOk result ((c : List ℕ) → get bytes_eq table.new c ≡ (if bytes_eq name.now c then (if is_value (kind_at w.now name.now) then Some (given_type given.now) else get bytes_eq table.old c) else get bytes_eq table.old c)) }
+    ensures { OnOk result ((scope : List (List ℕ)) (c : List ℕ) → get bytes_eq table.new c ≡ (if bytes_eq name.now c then (if is_value (kind_at w.now name.now) then Some (given_type unread scope given.now) else get bytes_eq table.old c) else get bytes_eq table.old c)) }
 {
     match w.kind(name) {
         Some(Kind::Value) => put(table, name, given),
@@ -73,7 +73,7 @@ fn add(
 }
 
 fn put(table: &mut IndexMap<Name, Ty>, name: &Name, given: &Given) -> Result<(), NoMemory>
-    ensures { OnOk result ((c : List ℕ) → get bytes_eq table.new c ≡ (if bytes_eq name.now c then Some (given_type given.now) else get bytes_eq table.old c)) }
+    ensures { OnOk result ((scope : List (List ℕ)) (c : List ℕ) → get bytes_eq table.new c ≡ (if bytes_eq name.now c then Some (given_type unread scope given.now) else get bytes_eq table.old c)) }
 {
     table.insert(name.copied()?, type_of(given)?)?;
     Ok(())
@@ -81,7 +81,7 @@ fn put(table: &mut IndexMap<Name, Ty>, name: &Name, given: &Given) -> Result<(),
 
 // The type that an assignment gives. One that is written out is not read yet.
 fn type_of(given: &Given) -> Result<Ty, NoMemory>
-    ensures { IfOk result (λ t. t ≡ given_type given.now) }
+    ensures { IfOk result (λ t. (scope : List (List ℕ)) → t ≡ given_type unread scope given.now) }
 {
     match given {
         Given::Literal(class) => Ok(Ty::Class(class.copied()?)),

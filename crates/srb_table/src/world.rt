@@ -6,7 +6,7 @@ ghost use Rattle.srb_rules.specs.Links.{circular_links, counted};
 ghost use Rattle.srb_rules.specs.Parents as parents;
 ghost use Rattle.srb_rules.specs.Resolves.{lin_in};
 ghost use Rattle.srb_rules.specs.Standing.{Stands};
-ghost use Rattle.srb_table.specs.Names.{AreAncestry, AreLinked, AreTables, HasNoMembers, IsFilled, KnowsNames};
+ghost use Rattle.srb_table.specs.Names.{AreAncestry, AreLinked, AreTables, HasNoMembers, IsFilled, KnowsNames, TellsValues};
 ghost use Rattle.srb_table.specs.Steps.{facts_of};
 
 use crate::counted::lins_by;
@@ -28,7 +28,8 @@ use std::alloc::Global;
 
 /// The symbol table of the built-in table's facts and then those of the files, in path order.
 pub fn build(alloc: Global, files: &[Summary]) -> Result<World, NoMemory>
-    ensures { IfOk result (λ w. Stands w (facts_of built_in files.now)) }
+    ensures names { IfOk result (λ w. Stands w (facts_of built_in files.now)) }
+    ensures values { IfOk result (λ w. TellsValues w (facts_of built_in files.now)) }
 {
     let first = table(alloc)?;
     world_of(alloc, first.as_slice(), files)
@@ -36,7 +37,8 @@ pub fn build(alloc: Global, files: &[Summary]) -> Result<World, NoMemory>
 
 /// The symbol table of some facts: those of `first`, and then those of the files in their order.
 pub fn world_of(alloc: Global, first: &[Fact], files: &[Summary]) -> Result<World, NoMemory>
-    ensures { IfOk result (λ w. Stands w (facts_of first.now files.now)) }
+    ensures names { IfOk result (λ w. Stands w (facts_of first.now files.now)) }
+    ensures values { IfOk result (λ w. TellsValues w (facts_of first.now files.now)) }
 {
     let world = named(alloc, first, files)?;
     let tables = all_tables(alloc, &world, first, files)?;
