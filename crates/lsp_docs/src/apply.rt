@@ -4,10 +4,10 @@ ghost use Rattle.lsp_docs.specs.Documents.{Saves, changes_now, closes, if_open, 
 ghost use Rattle.lsp_docs.specs.Rows.{IsDoneBy, IsPlaceOf, IsRefusedBy};
 
 use crate::DocEnd;
-use crate::changes::{changed, new_text};
-use crate::rows::Rows;
+use crate::changes::{changed, held_text};
+use crate::rows::{Rows, held_bytes};
 use lsp_msg::Change;
-use srb_terms::{Items, Name, Words};
+use srb_terms::{Name, Words};
 use srb_text::BYTES_LIMIT;
 use std::alloc::Global;
 
@@ -22,7 +22,7 @@ pub fn open(alloc: Global, rows: &mut Rows, path: &Name, text: &Words) -> Result
 {
     match rows.find(path) {
         Ok(index) => {
-            let text = new_text(alloc, rows.others(index), text)?;
+            let text = held_text(alloc, rows.others(index), text)?;
             rows.open(index, text);
             Ok(())
         }
@@ -48,7 +48,7 @@ fn open_new(
             count: count as u64,
         });
     }
-    let text = new_text(alloc, rows.total(), text)?;
+    let text = held_text(alloc, rows.total(), text)?;
     rows.insert(index, path, text)?;
     Ok(())
 }
@@ -76,7 +76,7 @@ pub fn save(alloc: Global, rows: &mut Rows, path: &Name) -> Result<(), DocEnd>
     let Some((index, text)) = rows.find_open(path) else {
         return Err(DocEnd::Unknown);
     };
-    let bytes = Items::from_slice(alloc, text.as_str().as_bytes())?;
+    let bytes = held_bytes(alloc, text.as_str().as_bytes())?;
     rows.save(index, bytes);
     Ok(())
 }
@@ -92,7 +92,7 @@ pub fn close(rows: &mut Rows, path: &Name) -> Result<(), DocEnd>
     };
     match &rows.as_slice()[index].saved {
         Some(bytes) => {
-            let size = rows.others(index) + bytes.as_slice().len();
+            let size = rows.others(index) + bytes.get().as_slice().len();
             if size > BYTES_LIMIT {
                 return Err(DocEnd::TooBig { bytes: size as u64 });
             }

@@ -9,7 +9,7 @@ ghost use Rattle.lsp_docs.specs.Changes.{after_changes, after_sized, sized_text,
 use crate::DocEnd;
 use crate::texts::made;
 use lsp_msg::Change;
-use srb_terms::Words;
+use srb_terms::{Boxed, Words};
 use srb_text::{BYTES_LIMIT, EditFault, Pos, Text, laws};
 use std::alloc::Global;
 
@@ -19,7 +19,7 @@ pub fn changed(
     text: &Text,
     others: usize,
     changes: &[Change],
-) -> Result<Text, DocEnd>
+) -> Result<Boxed<Text>, DocEnd>
     requires { sum_with others text.now ≤ MOST_BYTES }
     ensures spelled { chars (encode_utf8_all text.now) ≡ text.now }
     ensures changed { IfOk result (λ new. (agreed : Agreed) → after_changes agreed others text.now changes.now ≡ Ok new) }
@@ -30,7 +30,7 @@ pub fn changed(
     'changes: for change in changes {
         apply_change(alloc, &mut now, others, change)?;
     }
-    Ok(now)
+    Ok(Boxed::new(alloc, now)?)
 }
 
 fn apply_change(
@@ -54,7 +54,7 @@ fn apply_change(
 }
 
 /// The text of these words, unless it leaves too many bytes beside the `others`.
-pub fn new_text(alloc: Global, others: usize, words: &Words) -> Result<Text, DocEnd>
+fn new_text(alloc: Global, others: usize, words: &Words) -> Result<Text, DocEnd>
     requires { others ≤ MOST_BYTES }
     ensures made { IfOk result (λ text. text ≡ chars words.now) }
     ensures fits { IfOk result (λ text. others + length words.now ≤ MOST_BYTES) }
@@ -66,6 +66,18 @@ pub fn new_text(alloc: Global, others: usize, words: &Words) -> Result<Text, Doc
         return Err(DocEnd::TooBig { bytes: size as u64 });
     }
     Ok(made(alloc, words.as_str())?)
+}
+
+/// The same text, which copies share.
+pub fn held_text(alloc: Global, others: usize, words: &Words) -> Result<Boxed<Text>, DocEnd>
+    requires { others ≤ MOST_BYTES }
+    ensures made { IfOk result (λ text. text ≡ chars words.now) }
+    ensures fits { IfOk result (λ text. others + length words.now ≤ MOST_BYTES) }
+    ensures refused { IfErr result (λ e. e ≢ NoMemory → (e ≡ TooBig (others + length words.now)) × (MOST_BYTES < others + length words.now)) }
+    ensures spelled { encode_utf8_all (chars words.now) ≡ words.now }
+{
+    let text = new_text(alloc, others, words)?;
+    Ok(Boxed::new(alloc, text)?)
 }
 
 // Puts the words in the place of what stands between two positions.

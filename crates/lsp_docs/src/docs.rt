@@ -45,6 +45,16 @@ impl Docs {
         })
     }
 
+    /// A copy, which shares the texts. It takes memory for the list of the files alone.
+    pub fn copied(&self, alloc: Global) -> Result<Docs, NoMemory>
+        ensures { IfOk result (λ docs. docs ≡ self.now) }
+    {
+        Ok(Docs {
+            root: self.root.copied()?,
+            rows: self.rows.copied(alloc)?,
+        })
+    }
+
     /// Settles the root. After an error the documents are as they were.
     pub fn set_root(&mut self, alloc: Global, root: Option<&Words>) -> Result<(), NoMemory>
         ensures ok { OnOk result (self.new ≡ record self.old { agreed = agreed_by (option_copied root.entry) [] }) }

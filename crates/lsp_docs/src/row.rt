@@ -1,19 +1,19 @@
-ghost use Rattle.std.specs.Prelude.{◌≡◌};
+ghost use Rattle.std.specs.Prelude.{◌≡◌, IfOk};
 ghost use Rattle.std.specs.Option.{option_copied};
 ghost use Rattle.lsp_docs.specs.Rows.{present_of, size_of};
 
-use srb_terms::{Items, Name};
+use srb_terms::{Boxed, Items, Name, NoMemory};
 use srb_text::Text;
 
-/// What is kept of one path.
+/// What is kept of one path. Copies share the bytes and the text.
 #[derive(Drop)]
 pub struct Row {
     /// The path.
     pub path: Name,
     /// The bytes that the file had at the start or was saved with last, if any.
-    pub saved: Option<Items<u8>>,
+    pub saved: Option<Boxed<Items<u8>>>,
     /// The present text where the path is open; else the saved bytes are the present ones.
-    pub text: Option<Text>,
+    pub text: Option<Boxed<Text>>,
 }
 
 impl Row {
@@ -22,9 +22,9 @@ impl Row {
         ensures { option_copied result ≡ present_of self.now }
     {
         match &self.text {
-            Some(text) => Some(text.as_str().as_bytes()),
+            Some(text) => Some(text.get().as_str().as_bytes()),
             None => match &self.saved {
-                Some(bytes) => Some(bytes.as_slice()),
+                Some(bytes) => Some(bytes.get().as_slice()),
                 None => None,
             },
         }
@@ -38,5 +38,26 @@ impl Row {
             Some(bytes) => bytes.len(),
             None => 0,
         }
+    }
+
+    /// A copy, which takes no memory.
+    pub fn copied(&self) -> Result<Row, NoMemory>
+        ensures { IfOk result (λ row. row ≡ self.now) }
+    {
+        Ok(Row {
+            path: self.path.copied()?,
+            saved: copied_if(&self.saved)?,
+            text: copied_if(&self.text)?,
+        })
+    }
+}
+
+/// A copy of what is there, if anything is.
+fn copied_if<T: Drop>(held: &Option<Boxed<T>>) -> Result<Option<Boxed<T>>, NoMemory>
+    ensures { IfOk result (λ copy. copy ≡ held.now) }
+{
+    match held {
+        Some(held) => Ok(Some(held.copied()?)),
+        None => Ok(None),
     }
 }

@@ -7,7 +7,7 @@ ghost use Rattle.srb_text.specs.Limits.{MOST_BYTES};
 ghost use Rattle.lsp_docs.specs.Rows.{AreRows, IsPlaceOf, IsRowAt, closed_row, opened_row, present_of, project_of, reading, saved_row, size_of};
 
 use crate::row::Row;
-use srb_terms::{Items, Name, NoMemory, Project};
+use srb_terms::{Boxed, Items, Name, NoMemory, Project};
 use srb_text::Text;
 use std::alloc::Global;
 use std::marker::Model;
@@ -47,12 +47,22 @@ impl Rows {
         'files: for file in files.files() {
             list.push(Row {
                 path: file.path().copied()?,
-                saved: Some(Items::from_slice(alloc, file.bytes())?),
+                saved: Some(held_bytes(alloc, file.bytes())?),
                 text: None,
             })?;
             total += file.bytes().len();
         }
         Ok(Rows { list, total })
+    }
+
+    /// A copy, which shares the bytes and the texts.
+    pub fn copied(&self, alloc: Global) -> Result<Rows, NoMemory>
+        ensures { IfOk result (λ rows. rows ≡ self.now) }
+    {
+        Ok(Rows {
+            list: copied_rows(alloc, self.list.as_slice())?,
+            total: self.total,
+        })
     }
 
     /// The rows.
@@ -91,7 +101,7 @@ impl Rows {
     {
         match self.find(path) {
             Ok(index) => match &self.list[index].text {
-                Some(text) => Some((index, text)),
+                Some(text) => Some((index, text.get())),
                 None => None,
             },
             Err(_) => None,
@@ -109,25 +119,25 @@ impl Rows {
     }
 
     /// Puts a text at `index`, which is open then.
-    pub fn open(&mut self, index: usize, text: Text)
+    pub fn open(&mut self, index: usize, text: Boxed<Text>)
         requires within { index < length self.old }
         requires fits { (r : Row) → slice_get self.old index ≡ Some r → total_bytes (project_of self.old) + length (encode_utf8_all text) ≤ MOST_BYTES + size_of (present_of r) }
         ensures { (r : Row) → slice_get self.old index ≡ Some r → self.new ≡ slice_set self.old index (opened_row r text) }
     {
         let row = &mut self.list[index];
-        self.total = self.total - row.size() + text.as_str().len();
+        self.total = self.total - row.size() + text.get().as_str().len();
         row.text = Some(text);
     }
 
     /// Adds an open row before that at `index`.
-    pub fn insert(&mut self, index: usize, path: &Name, text: Text) -> Result<(), NoMemory>
+    pub fn insert(&mut self, index: usize, path: &Name, text: Boxed<Text>) -> Result<(), NoMemory>
         requires place { IsPlaceOf path.now self.old index }
         requires room { length self.old < MOST_FILES }
         requires fits { total_bytes (project_of self.old) + length (encode_utf8_all text) ≤ MOST_BYTES }
         ensures ok { OnOk result (self.new ≡ insert self.old index (record { path = path.now; saved = None; text = Some text })) }
         ensures err { OnErr result (self.new ≡ self.old) }
     {
-        let size = text.as_str().len();
+        let size = text.get().as_str().len();
         let row = Row {
             path: path.copied()?,
             saved: None,
@@ -139,7 +149,7 @@ impl Rows {
     }
 
     /// Puts the bytes as the saved ones of the row at `index`, which is open.
-    pub fn save(&mut self, index: usize, bytes: Items<u8>)
+    pub fn save(&mut self, index: usize, bytes: Boxed<Items<u8>>)
         requires within { index < length self.old }
         requires open { (r : Row) → slice_get self.old index ≡ Some r → IsSome r.text }
         ensures { (r : Row) → slice_get self.old index ≡ Some r → self.new ≡ slice_set self.old index (saved_row r bytes) }
@@ -168,4 +178,21 @@ impl Rows {
         self.total -= self.list[index].size();
         self.list.remove(index);
     }
+}
+
+fn copied_rows(alloc: Global, rows: &[Row]) -> Result<Vec<Row>, NoMemory>
+    ensures { IfOk result (λ copy. copy.items ≡ rows.now) }
+{
+    let mut copy = Vec::with_capacity(alloc, rows.len())?;
+    'rows: for row in rows {
+        copy.push(row.copied()?)?;
+    }
+    Ok(copy)
+}
+
+/// The bytes, which copies share.
+pub fn held_bytes(alloc: Global, bytes: &[u8]) -> Result<Boxed<Items<u8>>, NoMemory>
+    ensures { IfOk result (λ held. held ≡ bytes.now) }
+{
+    Boxed::new(alloc, Items::from_slice(alloc, bytes)?)
 }

@@ -17,7 +17,7 @@ returns-then-size-gt-BYTES_LIMIT-clause-refused c = λ other agreed.
     let same = read_row rows c.as_slice.result.now c.in-Some.index c.index-as_slice-index.result found.0 c.as_slice.ensures.rows found.1.here c.index-as_slice-index.is in
     let saved : found.0.saved ≡ Some c.in-Some-saved.bytes = subst (λ (r : Row). r.saved ≡ Some c.in-Some-saved.bytes) (sym c.index-as_slice-index.is ∙ same) c.in-Some-saved.is in
     let size = ap size_of saved in
-    let len = ap length c.as_slice-in-Some-saved.ensures in
+    let len = ap length (c.as_slice-in-Some-saved.ensures ∙ c.get.ensures) in
     subst (λ f. if_open (documents_of agreed rows) (closes (documents_of agreed rows)) f ≡ Err (TooBig (c.others.result + length c.as_slice-in-Some-saved.result.now))) found.1.path
     (closes_big agreed rows c.in-Some.index found.0 c.in-Some.field-0-1.now c.others.result
     (record { are = c.find_open.ensures.ordered; here = found.1.here; with_text = found.2 })
@@ -36,7 +36,7 @@ pub close-requires-clause-fits : goal.close-requires-clause-fits
 close-requires-clause-fits c = λ r get.
     let same = read_row c.args.rows.now c.as_slice.result.now c.in-Some.index c.index-as_slice-index.result r c.as_slice.ensures.rows get c.index-as_slice-index.is in
     let size = ap size_of (subst (λ (x : Row). x.saved ≡ Some c.in-Some-saved.bytes) (sym c.index-as_slice-index.is ∙ same) c.in-Some-saved.is) in
-    let len = ap length c.as_slice-in-Some-saved.ensures in
+    let len = ap length (c.as_slice-in-Some-saved.ensures ∙ c.get.ensures) in
     omega (arith, size, len, c.others.ensures.sum r get, c.if-size-gt-BYTES_LIMIT.false)
 
 pub remove-requires : goal.remove-requires
@@ -48,7 +48,7 @@ returns-else-size-gt-BYTES_LIMIT-clause-done c = λ agreed.
     let rows = c.args.rows.now in
     let same = read_row rows c.as_slice.result.now c.in-Some.index c.index-as_slice-index.result found.0 c.as_slice.ensures.rows found.1.here c.index-as_slice-index.is in
     let size = ap size_of (subst (λ (r : Row). r.saved ≡ Some c.in-Some-saved.bytes) (sym c.index-as_slice-index.is ∙ same) c.in-Some-saved.is) in
-    let len = ap length c.as_slice-in-Some-saved.ensures in
+    let len = ap length (c.as_slice-in-Some-saved.ensures ∙ c.get.ensures) in
     subst (λ f. IsDoneFor (if_open (documents_of agreed rows) (closes (documents_of agreed rows)) f) (documents_of agreed rows) (documents_of agreed c.close.new.self) (record { path = f; edit = true })) found.1.path
     (closes_back agreed rows c.close.new.self c.in-Some.index found.0 c.in-Some.field-0-1.now c.others.result
     (record { are = c.find_open.ensures.ordered; here = found.1.here; with_text = found.2 })

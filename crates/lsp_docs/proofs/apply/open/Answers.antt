@@ -26,7 +26,7 @@ open-requires-clause-within c =
 pub open-requires-clause-fits : goal.open-requires-clause-fits
 open-requires-clause-fits c = λ r get.
     let sum = c.others.ensures.sum r get in
-    let size = ap (λ t. length (encode_utf8_all t)) c.in_ok-text-in-Ok.ensures.made ∙ ap length c.new_text.ensures.spelled in
+    let size = ap (λ t. length (encode_utf8_all t)) c.in_ok-text-in-Ok.ensures.made ∙ ap length c.held_text.ensures.spelled in
     omega (arith, sum, size, c.in_ok-text-in-Ok.ensures.fits)
 
 pub returns-in_ok-text-in-Ok-clause-done : goal.returns-in_ok-text-in-Ok-clause-done
@@ -36,5 +36,5 @@ returns-in_ok-text-in-Ok-clause-done c = λ agreed.
     let are = c.find.ensures.ordered in
     let set = c.«open».ensures found.0 found.1.here ∙ ap (λ t. slice_set rows c.in-Ok.index (opened_row found.0 t)) c.in_ok-text-in-Ok.ensures.made in
     subst (λ f. IsDoneFor (opens (documents_of agreed rows) c.args.text.now f) (documents_of agreed rows) (documents_of agreed c.«open».new.self) (record { path = f; edit = true })) found.1.path
-    (opens_again agreed rows c.«open».new.self c.in-Ok.index found.0 c.args.text.now c.others.result are found.1.here set c.new_text.ensures.spelled
+    (opens_again agreed rows c.«open».new.self c.in-Ok.index found.0 c.args.text.now c.others.result are found.1.here set c.held_text.ensures.spelled
     (c.others.ensures.sum found.0 found.1.here) c.in_ok-text-in-Ok.ensures.fits (present_at rows c.in-Ok.index found.0 are found.1.here))

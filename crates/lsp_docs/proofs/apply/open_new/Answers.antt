@@ -23,7 +23,7 @@ returns-in_err-text-clause-refused c =
 
 pub insert-requires-clause-fits : goal.insert-requires-clause-fits
 insert-requires-clause-fits c =
-    let size = ap (λ t. length (encode_utf8_all t)) c.in_ok-text.ensures.made ∙ ap length c.new_text.ensures.spelled in
+    let size = ap (λ t. length (encode_utf8_all t)) c.in_ok-text.ensures.made ∙ ap length c.held_text.ensures.spelled in
     omega (arith, c.total.ensures.total, size, c.in_ok-text.ensures.fits)
 
 pub returns-clause-done : goal.returns-clause-done
@@ -32,4 +32,4 @@ returns-clause-done c = λ agreed.
     let total = c.total.ensures.total in
     opens_new agreed c.args.path.now c.args.rows.now c.insert.new.self c.args.index c.args.text.now c.as_slice-count.ensures.ordered c.requires (omega (arith, count, c.if-count-ge-FILES_LIMIT.false))
     (c.in_ok-insert.ensures.ok ∙ ap (λ t. insert c.args.rows.now c.args.index (record { path = c.args.path.now; saved = None; text = Some t })) c.in_ok-text.ensures.made)
-    c.new_text.ensures.spelled (omega (arith, total, c.in_ok-text.ensures.fits))
+    c.held_text.ensures.spelled (omega (arith, total, c.in_ok-text.ensures.fits))

@@ -31,3 +31,6 @@ returns-in_err-apply_change-clause-spelled c = spelled_back c.args.text.now c.as
 
 pub returns-clause-spelled : goal.returns-clause-spelled
 returns-clause-spelled c = spelled_back c.args.text.now c.as_str.ensures.scalars
+
+pub returns-in_err-new-clause-spelled : goal.returns-in_err-new-clause-spelled
+returns-in_err-new-clause-spelled c = spelled_back c.args.text.now c.as_str.ensures.scalars

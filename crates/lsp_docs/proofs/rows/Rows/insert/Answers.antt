@@ -1,11 +1,11 @@
-use Rattle.std.proofs.Common.{◌+◌, Some, None, length, ap, sym, subst, refl, arith}
+use Rattle.std.proofs.Common.{◌+◌, Some, None, length, ap, sym, subst, refl, ◌∙◌, encode_utf8_all, arith}
 use Rattle.lsp_docs.specs.Rows.{IsPlaceOf}
 use Rattle.lsp_docs.proofs.RowsHold.{Holds, insert_holds, total_same}
 use Rattle.lsp_docs.proofs.rows.Rows.insert.Goals as goal
 
 pub invariant_of-self-2 : goal.invariant_of-self-2
 invariant_of-self-2 c =
-    let size = ap length c.as_str-size.ensures.bytes in
+    let size = ap length c.as_str-size.ensures.bytes ∙ ap (λ t. length (encode_utf8_all t)) c.get.ensures in
     let sum = total_same _ _ c.self.view_is in
     let count = ap length c.self.view_is in
     let place = subst (λ rows. IsPlaceOf c.args.path.now rows c.args.index) (sym c.self.view_is) c.requires.place in

@@ -23,7 +23,7 @@ pub files-preserved : goal.files-preserved
 files-preserved c =
     let files = c.files-file-items.result.now in
     let file = c.file-item.result in
-    let row = closed_is c.in_ok-copied.field-0 c.in_ok-from_slice.field-0 file (c.in_ok-copied.ensures ∙ c.path.ensures) (c.in_ok-from_slice.ensures ∙ c.bytes.ensures) in
+    let row = closed_is c.in_ok-copied.field-0 c.in_ok-held_bytes.field-0 file (c.in_ok-copied.ensures ∙ c.path.ensures) (c.in_ok-held_bytes.ensures ∙ c.bytes.ensures) in
     let bytes = ap length c.bytes-in-files.ensures in
     let next = total-take_next files c.files.file-index file c.files-test.true c.file-item.is in (
       c.in_ok-push.ensures.items ∙ ap₂ (λ (l : List Row) r. l ++ r ∷ []) c.files.invariant.0 row

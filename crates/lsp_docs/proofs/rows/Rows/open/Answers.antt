@@ -1,4 +1,4 @@
-use Rattle.std.proofs.Common.{length, ap, refl, arith}
+use Rattle.std.proofs.Common.{length, ap, refl, ◌∙◌, encode_utf8_all, arith}
 use Rattle.lsp_docs.specs.Rows.{opened_row}
 use Rattle.lsp_docs.proofs.RowsHold.{row_at, row_size, set_holds, set_same, within_same, get_same, total_same}
 use Rattle.lsp_docs.proofs.rows.Rows.open.Goals as goal
@@ -16,7 +16,7 @@ invariant_of-self c =
     let small = row_size _ c.self.inside.total c.args.index row c.self.invariant within c.index_mut-row.ensures.value in
     let fits = c.requires.fits row (get_same _ _ c.args.index row c.self.view_is (row_at _ c.args.index row within c.index_mut-row.ensures.value)) in
     let sum = total_same _ _ c.self.view_is in
-    let size = ap length c.as_str.ensures.bytes in
+    let size = ap length c.as_str.ensures.bytes ∙ ap (λ t. length (encode_utf8_all t)) c.get.ensures in
     set_holds c.self.inside.list.items c.self.inside.total _ c.args.index row (opened_row row c.args.text) c.self.invariant within c.index_mut-row.ensures.value
     refl refl (omega (arith, c.size.ensures, small, size)) (omega (arith, c.size.ensures, small, size, fits, sum, c.self.invariant.2))
 
