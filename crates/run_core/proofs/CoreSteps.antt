@@ -1,6 +1,6 @@
 -- What the calls of a core leave, as steps of the machine.
 use Rattle.std.proofs.Common.{◌≡◌, ℕ, suc, ◌+◌, ◌<◌, Bool, true, false, cond, not, ◌&&◌, ◌||◌, List, [], ◌∷◌, length, refl, inl, inr, ⊎_elim, sym, ap, ◌∙◌, subst, arith}
-use Rattle.std.specs.Prelude.{Option, Some, None, Result, Ok, bytes_eq, is_some, unwrap_or, IsNone}
+use Rattle.std.specs.Prelude.{◌≢◌, Option, Some, None, Result, Ok, bytes_eq, is_some, unwrap_or, IsNone}
 use Rattle.std.specs.List.{slice_get}
 use Rattle.std.specs.Option.{option_map, option_copied}
 use denote.Bor.{Bor}
@@ -12,7 +12,9 @@ use Rattle.std.specs.declared.cmp.Ordering.TheVariants.{Less, Equal, Greater}
 use Rattle.srb_terms.specs.Projects.{bytes_at, path_cmp, put_file, IsBeforeAll, IsProject}
 use Rattle.srb_terms.specs.declared.diag.Diag.{Diag}
 use Rattle.srb_check.specs.Checks.{fresh}
-use Rattle.srb_check.specs.Jobs.{IsJobOf, Known}
+use Rattle.srb_check.specs.Jobs.{IsJobOf, IsJobWith, Known}
+use Rattle.srb_check.specs.Symbols.{project_facts}
+use Rattle.srb_check.proofs.FactLists.{same_facts-decides}
 use Rattle.lsp_msg.specs.declared.id.Id.{Id}
 use Rattle.lsp_msg.specs.declared.msg.Msg.{Msg as Message}
 use Rattle.lsp_msg.specs.declared.msg.Msg.TheVariants as msg
@@ -23,16 +25,17 @@ use Rattle.lsp_docs.specs.declared.applied.Applied.{Applied}
 use Rattle.lsp_docs.specs.declared.doc_end.DocEnd.{DocEnd}
 use Rattle.lsp_docs.specs.Paths.{Path, Bytes, has, is_before, with_path, with_paths, without_path}
 use Rattle.lsp_docs.specs.Projects.{Project, with_bytes, without_file, paths_of}
-use Rattle.lsp_docs.specs.Documents.{Documents, Deed, after_deed, applied, no_documents, told_of, IsAccepted}
+use Rattle.lsp_docs.specs.Documents.{Agreed, Documents, Deed, after_deed, applied, no_documents, told_of, IsAccepted}
 use Rattle.lsp_docs.specs.Documents.Deed.{Edits, Saves}
 use Rattle.lsp_docs.specs.Uris.{is_empty}
-use Rattle.lsp_docs.proofs.PathLemmas.{same_path, self_path, bytes_at-with_bytes, length-without_had}
+use Rattle.lsp_docs.proofs.PathLemmas.{same_path, other_path, bytes_at-with_bytes, length-without_had}
 use Rattle.run_core.specs.declared.row.Row.{Row}
 use Rattle.run_core.specs.declared.mark.Mark.TheVariants.{Present, Todo, Owed, Edited}
-use Rattle.run_core.specs.Rows.{marked, first_marked, lists_shown, IsBeforeRows, IsOrdered, OwedAreAsked, after_edited, after_built, worked_row, after_worked, next_index, opening_rows}
-use Rattle.run_core.specs.Sessions.{Phase, Waiting, Serving, Session, told, told_by, method_of, when_serving, told_in, answer_of}
-use Rattle.run_core.specs.Machine.{State, IsShown, opening, looked, after_message, shown_of}
-use Rattle.run_core.specs.Cores.{Makes, IsCore, IsDue, IsLeastOwn, IsNextOwn, Lands, checked_language, has_own, landed_by, state_of}
+use Rattle.run_core.specs.Rows.{marked, first_marked, lists_shown, IsBeforeRows, IsOrdered, OwedAreAsked, new_row, edited_row, after_edited, after_built, worked_row, after_worked, next_index, opening_rows}
+use Rattle.run_core.specs.Sessions.{Phase, Waiting, Serving, Closing, Session, told, told_by, method_of, when_serving, told_in, answer_of}
+use Rattle.run_core.specs.Machine.{State, IsShown, opening, project_of, looked, after_message, shown_of}
+use Rattle.run_core.specs.Cores.{Account, Makes, IsCore, IsDue, IsEdited, IsLeastOwn, IsNextOwn, Lands, after_edit_at, checked_language, has_own, is_waiting, keeps_at, landed_by, state_of}
+use Rattle.run_core.proofs.KeptFacts.{here, keeps-at, kept_facts}
 use Rattle.run_core.proofs.NextFile.{has-at, lookup-at, marked-sorted, may_parts, next_index-path, next_path-is, next_path-some, owed_asked}
 use Rattle.run_core.proofs.RowIndexes.{HasRow-at}
 use Rattle.run_core.proofs.RowMarks.{marked-edited-with, marked-edited-without, marked-edited-same, lists-edited, marked-built, marked-built-same, edited-built, lists-built, marked-worked-without, marked-worked-same, lists-worked-none, lists-worked-some}
@@ -72,19 +75,26 @@ paths_of-without_file f (file ∷ files) = by (bytes_eq f file.0) (paths_of-with
     by true ih = ih
     by false ih = ap (λ fs. file.0 ∷ fs) ih
 
--- what the project has at the path of an edit
-here : (f : Path) (now : Option Bytes) (p : Project) → bytes_at f (with_bytes f now p) ≡ now
-here f now p = bytes_at-with_bytes f f now p ∙ ap (λ b. cond b now (bytes_at f p)) (self_path f)
-
 -- the rows know the paths after the edit
-paths_edited : (f : Path) (now : Option Bytes) (p : Project) (rows : List Row) → IsOrdered rows → marked Present rows ≡ paths_of p
-    → marked Present (after_edited f (is_some (bytes_at f (with_bytes f now p))) rows) ≡ paths_of (with_bytes f now p)
-paths_edited f now p rows order known =
-    ap (λ b. marked Present (after_edited f b rows)) (ap is_some (here f now p)) ∙ by now
+paths_edited : (f : Path) (now : Option Bytes) (p : Project) (kept : Bool) (rows : List Row) → IsOrdered rows → marked Present rows ≡ paths_of p
+    → marked Present (after_edited f (is_some (bytes_at f (with_bytes f now p))) kept rows) ≡ paths_of (with_bytes f now p)
+paths_edited f now p kept rows order known =
+    ap (λ b. marked Present (after_edited f b kept rows)) (ap is_some (here f now p)) ∙ by now
   where
-    by : (now : Option Bytes) → marked Present (after_edited f (is_some now) rows) ≡ paths_of (with_bytes f now p)
-    by None = marked-edited-without Present f false rows (λ r. refl) order ∙ ap (without_path f) known ∙ sym (paths_of-without_file f p)
-    by (Some b) = marked-edited-with Present f true rows (λ r. refl) order ∙ ap (with_path f) known ∙ sym (paths_of-put_file f b p)
+    by : (now : Option Bytes) → marked Present (after_edited f (is_some now) kept rows) ≡ paths_of (with_bytes f now p)
+    by None = marked-edited-without Present f false kept rows (λ r. refl) order ∙ ap (without_path f) known ∙ sym (paths_of-without_file f p)
+    by (Some b) = marked-edited-with Present f true kept rows (λ r. refl) order ∙ ap (with_path f) known ∙ sym (paths_of-put_file f b p)
+
+-- the same of documents that were edited
+edited_paths : (d new : Documents) (rows left : List Row) (f : Path) (present kept : Bool) → IsEdited d new f → IsOrdered rows
+    → marked Present rows ≡ paths_of d.project → present ≡ is_some (bytes_at f new.project) → left ≡ after_edited f present kept rows
+    → marked Present left ≡ paths_of new.project
+edited_paths d new rows left f present kept edited order known has is =
+    ap (marked Present) is
+    ∙ ap (λ b. marked Present (after_edited f b kept rows)) has
+    ∙ (λ i. marked Present (after_edited (edited.named i) (is_some (bytes_at (edited.named i) (edited.done i).project)) kept rows))
+    ∙ paths_edited edited.edit.path edited.edit.now d.project kept rows order known
+    ∙ sym (ap (λ (x : Documents). paths_of x.project) edited.done)
 
 -- ---- messages about documents
 
@@ -119,58 +129,146 @@ plain_state d phase epoch stale todo owed edited shown seen owing ended = record
   ended = ended;
 }
 
-edited_state : {new done : Documents} (phase : Phase) (epoch : ℕ) (owing : Option Id) (ended : Option EndCause) {todo todo2 owed owed2 edited edited2 : List Path} {shown shown2 : List (Path × List Diag)}
-    → new ≡ done → todo ≡ todo2 → owed ≡ owed2 → edited ≡ edited2 → shown ≡ shown2
-    → plain_state new phase epoch true todo owed edited shown false owing ended ≡ plain_state done phase epoch true todo2 owed2 edited2 shown2 false owing ended
-edited_state phase epoch owing ended d t o e s = λ i. plain_state (d i) phase epoch true (t i) (o i) (e i) (s i) false owing ended
+edited_state : (new : Documents) (phase : Phase) (epoch : ℕ) (owing : Option Id) (ended : Option EndCause) {stale stale2 : Bool} {todo todo2 owed owed2 edited edited2 : List Path} {shown shown2 : List (Path × List Diag)}
+    → stale ≡ stale2 → todo ≡ todo2 → owed ≡ owed2 → edited ≡ edited2 → shown ≡ shown2
+    → plain_state new phase epoch stale todo owed edited shown false owing ended ≡ plain_state new phase epoch stale2 todo2 owed2 edited2 shown2 false owing ended
+edited_state new phase epoch owing ended b t o e s = λ i. plain_state new phase epoch (b i) (t i) (o i) (e i) (s i) false owing ended
 
 built_state : (d : Documents) (phase : Phase) (epoch : ℕ) (seen : Bool) (owing : Option Id) (ended : Option EndCause) {todo todo2 owed owed2 edited edited2 : List Path} {shown shown2 : List (Path × List Diag)}
     → todo ≡ todo2 → owed ≡ owed2 → edited ≡ edited2 → shown ≡ shown2
     → plain_state d phase epoch false todo owed edited shown seen owing ended ≡ plain_state d phase epoch false todo2 owed2 edited2 shown2 seen owing ended
 built_state d phase epoch seen owing ended t o e s = λ i. plain_state d phase epoch false (t i) (o i) (e i) (s i) seen owing ended
 
--- the rows and marks after an edit make the machine's step
-pub edit_makes : (d new : Documents) (phase : Phase) (rows left : List Row) (epoch : ℕ) (stale seen : Bool) (owing : Option Id) (ended : Option EndCause) (m : Message) (a : Applied)
-    → phase ≡ Serving → IsNone ended → IsAccepted d m new a → a.edit ≡ true → IsOrdered rows → left ≡ after_edited a.path (is_some (bytes_at a.path new.project)) rows
-    → Makes (state_of d phase rows epoch stale seen owing ended) (state_of new phase left (epoch + 1) true false owing ended) (Take (Msg m)) None
-edit_makes d new phase rows left epoch stale seen owing ended m a serving unended accepted edits order is = by accepted.deed accepted.accepted accepted.done accepted.told
+-- the documents of an accepted edit
+pub edited_by : (d new : Documents) (m : Message) (a : Applied) → IsAccepted d m new a → a.edit ≡ true → IsEdited d new a.path
+edited_by d new m a accepted edits = by accepted.deed accepted.done accepted.told
   where
-    by : (deed : Deed) → applied d m ≡ Some (Ok deed) → new ≡ after_deed d deed → a ≡ told_of deed
-        → Makes (state_of d phase rows epoch stale seen owing ended) (state_of new phase left (epoch + 1) true false owing ended) (Take (Msg m)) None
+    by : (deed : Deed) → new ≡ after_deed d deed → a ≡ told_of deed → IsEdited d new a.path
+    by (Saves f) done told = absurd (grind (arith, sym edits ∙ ap (λ (x : Applied). x.edit) told))
+    by (Edits e opened) done told = record { edit = e; opened = opened; done = done; named = ap (λ (x : Applied). x.path) told }
+
+-- an accepted edit makes the machine's step
+pub edit_makes : (s t : State) (new : Documents) (m : Message) (a : Applied) → s.session.phase ≡ Serving → IsNone s.ended
+    → IsAccepted s.session.documents m new a → a.edit ≡ true → t ≡ after_edit_at s new a.path (keeps_at a.path (project_of s) new.project)
+    → Makes s t (Take (Msg m)) None
+edit_makes s t new m a serving unended accepted edits is = by accepted.deed accepted.accepted accepted.done accepted.told
+  where
+    by : (deed : Deed) → applied s.session.documents m ≡ Some (Ok deed) → new ≡ after_deed s.session.documents deed → a ≡ told_of deed
+        → Makes s t (Take (Msg m)) None
     by (Saves f) accepted done told = absurd (grind (arith, sym edits ∙ ap (λ (x : Applied). x.edit) told))
     by (Edits e opened) accepted done told =
-        let present = is_some (bytes_at a.path new.project) in
-        let rows_are : left ≡ after_edited e.path present rows = is ∙ ap (λ f. after_edited f present rows) (ap (λ (x : Applied). x.path) told) in
-        let s : State = state_of d phase rows epoch stale seen owing ended in
-        let todo = ap (marked Todo) rows_are ∙ marked-edited-same Todo e.path present rows (λ r. refl) refl in
-        let owed = ap (marked Owed) rows_are ∙ marked-edited-with Owed e.path present rows (λ r. refl) order in
-        let edited = ap (marked Edited) rows_are ∙ marked-edited-with Edited e.path present rows (λ r. refl) order in
-        let shown = ap lists_shown rows_are ∙ lists-edited e.path present rows in
         let told_is = told_document s.session m (Ok (Edits e opened)) serving accepted in
+        let path : a.path ≡ e.path = ap (λ (x : Applied). x.path) told in
+        let after : Documents = after_deed s.session.documents (Edits e opened) in
         record {
-          permitted = none_ended ended unended;
-          made = edited_state phase (epoch + 1) owing ended done todo owed edited shown
+          permitted = none_ended s.ended unended;
+          made = is
+              ∙ (λ i. after_edit_at s (done i) (path i) (keeps_at (path i) (project_of s) (done i).project))
+              ∙ ap (after_edit_at s after e.path) (keeps-at (project_of s) e)
               ∙ sym (ap (after_message checked_language s) told_is);
           answered = sym (ap answer_of told_is);
         }
 
--- the rows know the paths after an edit, too
-pub edit_core : (d new : Documents) (rows left : List Row) (job : Known) (m : Message) (a : Applied)
-    → IsAccepted d m new a → a.edit ≡ true → IsOrdered rows → marked Present rows ≡ paths_of d.project
-    → left ≡ after_edited a.path (is_some (bytes_at a.path new.project)) rows → IsCore new true left job
-edit_core d new rows left job m a accepted edits order known is = by accepted.deed accepted.done accepted.told
+-- the rows and marks after an edit that keeps the symbol table
+pub kept_state : (d new : Documents) (phase : Phase) (rows left : List Row) (epoch : ℕ) (stale seen : Bool) (owing : Option Id) (ended : Option EndCause) (f : Path) (present : Bool)
+    → IsOrdered rows → left ≡ after_edited f present true rows
+    → state_of new phase left (epoch + 1) stale false owing ended ≡ after_edit_at (state_of d phase rows epoch stale seen owing ended) new f true
+kept_state d new phase rows left epoch stale seen owing ended f present order is =
+    edited_state new phase (epoch + 1) owing ended refl
+    (ap (marked Todo) is ∙ marked-edited-with Todo f present true rows (λ r. refl) order)
+    (ap (marked Owed) is ∙ marked-edited-with Owed f present true rows (λ r. refl) order)
+    (ap (marked Edited) is ∙ marked-edited-with Edited f present true rows (λ r. refl) order)
+    (ap lists_shown is ∙ lists-edited f present true rows)
+
+-- the same where the symbol table is stale after it
+pub changed_state : (d new : Documents) (phase : Phase) (rows left : List Row) (epoch : ℕ) (stale seen : Bool) (owing : Option Id) (ended : Option EndCause) (f : Path) (present kept : Bool)
+    → IsOrdered rows → left ≡ after_edited f present kept rows → (not kept || stale) ≡ true
+    → state_of new phase left (epoch + 1) true false owing ended ≡ after_edit_at (state_of d phase rows epoch stale seen owing ended) new f kept
+changed_state d new phase rows left epoch stale seen owing ended f present true order is due =
+    ap (λ b. state_of new phase left (epoch + 1) b false owing ended) (sym due)
+    ∙ kept_state d new phase rows left epoch stale seen owing ended f present order is
+changed_state d new phase rows left epoch stale seen owing ended f present false order is due =
+    edited_state new phase (epoch + 1) owing ended refl
+    (ap (marked Todo) is ∙ marked-edited-same Todo f present false rows (λ r. refl) refl)
+    (ap (marked Owed) is ∙ marked-edited-with Owed f present false rows (λ r. refl) order)
+    (ap (marked Edited) is ∙ marked-edited-with Edited f present false rows (λ r. refl) order)
+    (ap lists_shown is ∙ lists-edited f present false rows)
+
+pub not_both_ways : {X : Type 0} (b : Bool) → b ≡ true → b ≡ false → X
+not_both_ways true e d = absurd (grind (arith, d))
+not_both_ways false e d = absurd (grind (arith, e))
+
+-- what holds of a core after an edit that leaves the symbol table stale
+pub changed_core : (phase : Phase) (d new : Documents) (rows left : List Row) (job : Known) (f : Path) (present kept : Bool)
+    → phase ≡ Serving → IsEdited d new f → IsOrdered rows → marked Present rows ≡ paths_of d.project → present ≡ is_some (bytes_at f new.project)
+    → left ≡ after_edited f present kept rows → IsCore phase new true left job
+changed_core phase d new rows left job f present kept serving edited order known has is = record {
+  paths = edited_paths d new rows left f present kept edited order known has is;
+  asked = λ no. absurd (grind (arith, no));
+  waiting = λ yes. not_both_ways (is_waiting phase) yes (ap is_waiting serving);
+  built = λ begun no. absurd (grind (arith, no));
+}
+
+edited_asked : (f : Path) (present : Bool) (rows : List Row) → OwedAreAsked rows → OwedAreAsked (after_edited f present true rows)
+edited_asked f present [] asked = ((λ e. refl), tt)
+edited_asked f present (r ∷ rs) asked = by (bytes_eq f r.path) (is_before f r.path) (edited_asked f present rs asked.1)
   where
-    by : (deed : Deed) → new ≡ after_deed d deed → a ≡ told_of deed → IsCore new true left job
-    by (Saves f) done told = absurd (grind (arith, sym edits ∙ ap (λ (x : Applied). x.edit) told))
-    by (Edits e opened) done told = record {
-      paths = ap (marked Present) is
-          ∙ ap (λ f. marked Present (after_edited f (is_some (bytes_at f new.project)) rows)) (ap (λ (x : Applied). x.path) told)
-          ∙ ap (λ (x : Documents). marked Present (after_edited e.path (is_some (bytes_at e.path x.project)) rows)) done
-          ∙ paths_edited e.path e.now d.project rows order known
-          ∙ sym (ap (λ (x : Documents). paths_of x.project) done);
-      asked = λ no. absurd (grind (arith, no));
-      built = λ no. absurd (grind (arith, no));
-    }
+    by : (here before : Bool) → OwedAreAsked (after_edited f present true rs)
+        → OwedAreAsked (cond here (edited_row present true r ∷ rs) (cond before (edited_row present true (new_row f) ∷ r ∷ rs) (r ∷ after_edited f present true rs)))
+    by true before rest = ((λ e. refl), asked.1)
+    by false true rest = ((λ e. refl), asked)
+    by false false rest = (asked.0, rest)
+
+-- what holds of a core after an edit that keeps the symbol table, which isn't stale
+pub kept_core : (phase : Phase) (d new : Documents) (stale : Bool) (rows left : List Row) (before job : Known) (f : Path) (present : Bool)
+    → phase ≡ Serving → IsEdited d new f → IsOrdered rows → IsCore phase d stale rows before → present ≡ is_some (bytes_at f new.project)
+    → left ≡ after_edited f present true rows → IsJobOf new.project job → IsCore phase new stale left job
+kept_core phase d new stale rows left before job f present serving edited order core has is built = record {
+  paths = edited_paths d new rows left f present true edited order core.paths has is;
+  asked = λ e. subst OwedAreAsked (sym is) (edited_asked f present rows (core.asked e));
+  waiting = λ yes. not_both_ways (is_waiting phase) yes (ap is_waiting serving);
+  built = λ begun e. built;
+}
+
+-- the job of a core that isn't stale is that of the project
+pub serving_built : (phase : Phase) (d : Documents) (stale : Bool) (rows : List Row) (job : Known) → phase ≡ Serving → stale ≡ false → IsCore phase d stale rows job
+    → IsJobOf d.project job
+serving_built phase d stale rows job serving fresh core = core.built (ap is_waiting serving) fresh
+
+-- whether the symbol table stays
+pub stays_both : (kept stale : Bool) → (kept && not stale) ≡ true → (kept ≡ true) × (stale ≡ false)
+stays_both true true e = absurd (grind (arith, e))
+stays_both true false e = (refl, refl)
+stays_both false stale e = absurd (grind (arith, e))
+
+pub stays_not : (kept stale : Bool) → (kept && not stale) ≡ false → (not kept || stale) ≡ true
+stays_not true true e = refl
+stays_not true false e = absurd (grind (arith, e))
+stays_not false stale e = refl
+
+-- there is a record exactly where there are bytes
+pub some_loaded : {R : Type 0} (load : Bytes → R) (bytes : Option Bytes) → is_some (option_map load bytes) ≡ is_some bytes
+some_loaded load None = refl
+some_loaded load (Some b) = refl
+
+-- the facts of the project after such an edit, and its other files
+pub edited_facts : (d new : Documents) (f : Path) → IsEdited d new f → IsProject d.project → keeps_at f d.project new.project ≡ true
+    → project_facts new.project ≡ project_facts d.project
+edited_facts d new f edited order keeps =
+    ap (λ (x : Documents). project_facts x.project) edited.done
+    ∙ kept_facts d.project edited.edit.path edited.edit.now order
+    ((same_facts-decides _ _).0 (sym (keeps-at d.project edited.edit) ∙ sym (λ i. keeps_at (edited.named i) d.project (edited.done i).project) ∙ keeps))
+
+pub edited_others : (d new : Documents) (f g : Path) (bytes : Bytes) (job : Known) → IsEdited d new f → IsProject d.project → IsJobOf d.project job
+    → g ≢ f → bytes_at g new.project ≡ Some bytes → IsJobWith g bytes job
+edited_others d new f g bytes job edited order known differs is = record {
+  project = d.project;
+  ordered = order;
+  known = known;
+  here = sym (bytes_at-with_bytes g edited.edit.path edited.edit.now d.project
+      ∙ ap (λ b. cond b edited.edit.now (bytes_at g d.project)) (other_path g edited.edit.path (λ same. differs (same ∙ sym edited.named))))
+      ∙ sym (ap (λ (x : Documents). bytes_at g x.project) edited.done) ∙ is;
+}
 
 -- ---- a build
 
@@ -182,11 +280,13 @@ built_asked (r ∷ rs) = (by r.present r.owed, built_asked rs)
     by true o e = refl
     by false o e = e
 
-pub built_core : (d : Documents) (stale : Bool) (rows : List Row) (before job : Known) → IsCore d stale rows before → IsJobOf d.project job → IsCore d false (after_built rows) job
-built_core d stale rows before job core built = record {
+pub built_core : (phase : Phase) (d : Documents) (stale : Bool) (rows : List Row) (before job : Known) → IsCore phase d stale rows before → stale ≡ true
+    → IsJobOf d.project job → IsCore phase d false (after_built rows) job
+built_core phase d stale rows before job core due built = record {
   paths = marked-built-same Present rows (λ r. refl) ∙ core.paths;
   asked = λ e. built_asked rows;
-  built = λ e some. built;
+  waiting = λ yes. not_both_ways stale due (core.waiting yes).0;
+  built = λ begun e. built;
 }
 
 pub build_makes : (d : Documents) (phase : Phase) (rows left : List Row) (epoch : ℕ) (stale seen : Bool) (owing : Option Id) (ended : Option EndCause)
@@ -223,11 +323,12 @@ opening-asked : (p : Project) → OwedAreAsked (opening_rows p)
 opening-asked [] = tt
 opening-asked (file ∷ files) = ((λ e. e), opening-asked files)
 
-pub opening_core : (p : Project) (job : Known) → IsCore (no_documents p) false (opening_rows p) job
+pub opening_core : (p : Project) (job : Known) → IsCore Waiting (no_documents p) false (opening_rows p) job
 opening_core p job = record {
   paths = opening-present p;
   asked = λ e. opening-asked p;
-  built = λ e some. absurd (let none = ap is_empty (opening-none p).0 in grind (arith, some, none));
+  waiting = λ yes. (refl, (opening-none p).0);
+  built = λ begun e. absurd (grind (arith, begun));
 }
 
 pub opening_state : (p : Project) → state_of (no_documents p) Waiting (opening_rows p) 0 false false None None ≡ opening p
@@ -245,16 +346,31 @@ not_true : (b : Bool) → not b ≡ true → b ≡ false
 not_true true e = absurd (grind (arith, e))
 not_true false e = refl
 
+-- where some file is to be worked on, `initialize` is accepted
+begun_asked : (phase : Phase) (stale : Bool) (todo : List Path) → (is_waiting phase ≡ true → (stale ≡ false) × (todo ≡ [])) → not (is_empty todo) ≡ true
+    → is_waiting phase ≡ false
+begun_asked phase stale todo waiting some = by (is_waiting phase) refl
+  where
+    by : (b : Bool) → is_waiting phase ≡ b → b ≡ false
+    by false is = refl
+    by true is = absurd (let none = ap (λ l. not (is_empty l)) (waiting is).1 in grind (arith, none, some))
+
+pub own_begun : {job : Known} (d : Documents) (phase : Phase) (rows : List Row) (epoch : ℕ) (stale seen : Bool) (owing : Option Id) (ended : Option EndCause)
+    → IsCore phase d stale rows job → has_own (state_of d phase rows epoch stale seen owing ended) ≡ true → is_waiting phase ≡ false
+own_begun d phase rows epoch stale seen owing ended core own =
+    let parts = ready_parts (looked (state_of d phase rows epoch stale seen owing ended)) (not stale) (not (is_empty (marked Todo rows))) own in
+    begun_asked phase stale (marked Todo rows) core.waiting parts.2
+
 -- where some file may be worked on, the job is that of the project
 pub own_built : {job : Known} (d : Documents) (phase : Phase) (rows : List Row) (epoch : ℕ) (stale seen : Bool) (owing : Option Id) (ended : Option EndCause)
-    → IsCore d stale rows job → has_own (state_of d phase rows epoch stale seen owing ended) ≡ true → IsJobOf d.project job
+    → IsCore phase d stale rows job → has_own (state_of d phase rows epoch stale seen owing ended) ≡ true → IsJobOf d.project job
 own_built d phase rows epoch stale seen owing ended core own =
     let parts = ready_parts (looked (state_of d phase rows epoch stale seen owing ended)) (not stale) (not (is_empty (marked Todo rows))) own in
-    core.built (not_true stale parts.1) (not_true (is_empty (marked Todo rows)) parts.2)
+    core.built (begun_asked phase stale (marked Todo rows) core.waiting parts.2) (not_true stale parts.1)
 
 -- the row at the next index is that of the next file
 pub next_row-is : {job : Known} (d : Documents) (phase : Phase) (rows : List Row) (epoch : ℕ) (stale seen : Bool) (owing : Option Id) (ended : Option EndCause)
-    → IsCore d stale rows job → IsOrdered rows → (looked (state_of d phase rows epoch stale seen owing ended) && not stale) ≡ true
+    → IsCore phase d stale rows job → IsOrdered rows → (looked (state_of d phase rows epoch stale seen owing ended) && not stale) ≡ true
     → IsNextOwn (state_of d phase rows epoch stale seen owing ended) (option_map (λ (r : Row). r.path) (slice_get rows (next_index rows)))
 next_row-is d phase rows epoch stale seen owing ended core order ready =
     subst (IsNextOwn (state_of d phase rows epoch stale seen owing ended)) (sym (next_index-path rows))
@@ -275,7 +391,7 @@ next_row-some rows asked =
     by (Some r) = refl
 
 pub has_own-some : {job : Known} (d : Documents) (phase : Phase) (rows : List Row) (epoch : ℕ) (stale seen : Bool) (owing : Option Id) (ended : Option EndCause)
-    → IsCore d stale rows job → has_own (state_of d phase rows epoch stale seen owing ended) ≡ true → is_some (slice_get rows (next_index rows)) ≡ true
+    → IsCore phase d stale rows job → has_own (state_of d phase rows epoch stale seen owing ended) ≡ true → is_some (slice_get rows (next_index rows)) ≡ true
 has_own-some d phase rows epoch stale seen owing ended core own =
     let parts = ready_parts (looked (state_of d phase rows epoch stale seen owing ended)) (not stale) (not (is_empty (marked Todo rows))) own in
     next_row-some rows (core.asked (not_true stale parts.1)) ∙ parts.2
@@ -288,7 +404,7 @@ some_within rows i some = by (slice_get rows i) refl some
     by (Some r) is e = slice_get_within rows i r is
 
 pub has_own-within : {job : Known} (d : Documents) (phase : Phase) (rows : List Row) (epoch : ℕ) (stale seen : Bool) (owing : Option Id) (ended : Option EndCause)
-    → IsCore d stale rows job → has_own (state_of d phase rows epoch stale seen owing ended) ≡ true → next_index rows < length rows
+    → IsCore phase d stale rows job → has_own (state_of d phase rows epoch stale seen owing ended) ≡ true → next_index rows < length rows
 has_own-within d phase rows epoch stale seen owing ended core own =
     some_within rows (next_index rows) (has_own-some d phase rows epoch stale seen owing ended core own)
 
@@ -302,11 +418,13 @@ worked_asked f list (r ∷ rs) asked = by (bytes_eq f r.path) (worked_asked f li
     by true rest = ((λ e. e), asked.1)
     by false rest = (asked.0, rest)
 
-pub worked_core : (d : Documents) (stale : Bool) (rows left : List Row) (job : Known) (f : Path) (list : Option (List Diag)) → IsCore d stale rows job → IsJobOf d.project job → left ≡ after_worked f list rows → IsCore d stale left job
-worked_core d stale rows left job f list core built is = record {
+pub worked_core : (phase : Phase) (d : Documents) (stale : Bool) (rows left : List Row) (job : Known) (f : Path) (list : Option (List Diag)) → IsCore phase d stale rows job
+    → is_waiting phase ≡ false → IsJobOf d.project job → left ≡ after_worked f list rows → IsCore phase d stale left job
+worked_core phase d stale rows left job f list core begun built is = record {
   paths = ap (marked Present) is ∙ marked-worked-same Present f list rows (λ r. refl) ∙ core.paths;
   asked = λ e. subst OwedAreAsked (sym is) (worked_asked f list rows (core.asked e));
-  built = λ e some. built;
+  waiting = λ yes. not_both_ways (is_waiting phase) yes begun;
+  built = λ b e. built;
 }
 
 worked_state : (d : Documents) (phase : Phase) (epoch : ℕ) (stale : Bool) (owing : Option Id) (ended : Option EndCause) {todo todo2 owed owed2 edited edited2 : List Path} {shown shown2 : List (Path × List Diag)}
@@ -321,7 +439,7 @@ shown_rightly s row list false owed last due = (owed ∙ due.0, due.1 ∙ sym la
 
 -- the file of the next row is the one that may be worked on
 least_own : {job : Known} (d : Documents) (phase : Phase) (rows : List Row) (epoch : ℕ) (stale seen : Bool) (owing : Option Id) (ended : Option EndCause) (row : Row)
-    → IsCore d stale rows job → IsOrdered rows → has_own (state_of d phase rows epoch stale seen owing ended) ≡ true → slice_get rows (next_index rows) ≡ Some row
+    → IsCore phase d stale rows job → IsOrdered rows → has_own (state_of d phase rows epoch stale seen owing ended) ≡ true → slice_get rows (next_index rows) ≡ Some row
     → IsLeastOwn (state_of d phase rows epoch stale seen owing ended) row.path
 least_own d phase rows epoch stale seen owing ended row core order own is =
     let parts = ready_parts (looked (state_of d phase rows epoch stale seen owing ended)) (not stale) (not (is_empty (marked Todo rows))) own in
@@ -330,7 +448,7 @@ least_own d phase rows epoch stale seen owing ended row core order own is =
 
 -- fewer files are to be worked on then
 pub worked_fewer : {job : Known} (d : Documents) (phase : Phase) (rows left : List Row) (epoch : ℕ) (stale seen : Bool) (owing : Option Id) (ended : Option EndCause) (row : Row) (list : Option (List Diag))
-    → IsCore d stale rows job → IsOrdered rows → has_own (state_of d phase rows epoch stale seen owing ended) ≡ true → slice_get rows (next_index rows) ≡ Some row
+    → IsCore phase d stale rows job → IsOrdered rows → has_own (state_of d phase rows epoch stale seen owing ended) ≡ true → slice_get rows (next_index rows) ≡ Some row
     → left ≡ after_worked row.path list rows → length (marked Todo left) < length (marked Todo rows)
 worked_fewer d phase rows left epoch stale seen owing ended row list core order own is left_is =
     let least = least_own d phase rows epoch stale seen owing ended row core order own is in
@@ -343,7 +461,7 @@ worked_fewer d phase rows left epoch stale seen owing ended row list core order 
 
 -- the rows and the mark after a file was worked on make the machine's step
 pub worked_lands : {job : Known} (d : Documents) (phase : Phase) (rows left : List Row) (epoch : ℕ) (stale seen : Bool) (owing : Option Id) (ended : Option EndCause) (i : ℕ) (row : Row) (list : List Diag) (shown : Bool)
-    → IsCore d stale rows job → IsOrdered rows → has_own (state_of d phase rows epoch stale seen owing ended) ≡ true
+    → IsCore phase d stale rows job → IsOrdered rows → has_own (state_of d phase rows epoch stale seen owing ended) ≡ true
     → i ≡ next_index rows → slice_get rows i ≡ Some row → list ≡ fresh d.project row.path
     → IsDue row list shown → left ≡ after_worked row.path (cond shown (Some list) None) rows
     → Lands (state_of d phase rows epoch stale seen owing ended) (state_of d phase left epoch stale false owing ended) (landed_by d row.path epoch list shown)
@@ -385,6 +503,29 @@ worked_lands d phase rows left epoch stale seen owing ended i row list shown cor
 pub opening-first : (p : Project) → (first_marked Todo (opening_rows p) ≡ length (opening_rows p)) × (first_marked Owed (opening_rows p) ≡ length (opening_rows p))
 opening-first [] = (refl, refl)
 opening-first (file ∷ files) = let rest = opening-first files in (ap suc rest.0, ap suc rest.1)
+
+-- ---- the phases of a core
+
+pub begun_core : (d new : Documents) (agreed : Agreed) (phase : Phase) (stale : Bool) (rows : List Row) (job : Known) → IsCore phase d stale rows job
+    → new ≡ record d { agreed = agreed } → IsCore Serving new true rows job
+begun_core d new agreed phase stale rows job core is = record {
+  paths = core.paths ∙ sym (ap (λ (x : Documents). paths_of x.project) is);
+  asked = λ no. absurd (grind (arith, no));
+  waiting = λ yes. absurd (grind (arith, yes));
+  built = λ begun no. absurd (grind (arith, no));
+}
+
+abbrev account : State → ℕ → Account
+account s checks = record { state = s; own_checks = checks }
+
+pub closing_core : (d : Documents) (phase : Phase) (rows : List Row) (epoch : ℕ) (stale seen : Bool) (owing : Option Id) (ended : Option EndCause) (checks : ℕ) (job : Known) (a : Account)
+    → account (state_of d phase rows epoch stale seen owing ended) checks ≡ a → a.state.session.phase ≡ Serving → IsCore phase d stale rows job → IsCore Closing d stale rows job
+closing_core d phase rows epoch stale seen owing ended checks job a view serving core = record {
+  paths = core.paths;
+  asked = core.asked;
+  waiting = λ yes. absurd (grind (arith, yes));
+  built = λ begun fresh. core.built (ap is_waiting (ap (λ (x : Account). x.state.session.phase) view ∙ serving)) fresh;
+}
 
 -- ---- readings of a core
 

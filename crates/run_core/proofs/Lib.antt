@@ -13,4 +13,5 @@ pub mod RowMarks
 pub mod RowIndexes
 pub mod NextFile
 pub mod Loading
+pub mod KeptFacts
 pub mod CoreSteps

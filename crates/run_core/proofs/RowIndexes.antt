@@ -116,45 +116,45 @@ place_of-low f (r ∷ rs) (suc i) row is before = by (is_before r.path f) (place
     by false rest = omega arith
 
 -- an edit behind the first row leaves it
-passed : (f : Path) (present : Bool) (r : Row) (rs : List Row) → is_before r.path f ≡ true → after_edited f present (r ∷ rs) ≡ r ∷ after_edited f present rs
-passed f present r rs b =
-    ap (λ x. cond x (edited_row present r ∷ rs) (cond (is_before f r.path) (edited_row present (new_row f) ∷ r ∷ rs) (r ∷ after_edited f present rs))) (apart_back r.path f b)
-    ∙ ap (λ x. cond x (edited_row present (new_row f) ∷ r ∷ rs) (r ∷ after_edited f present rs)) (not_back r.path f b)
+passed : (f : Path) (present kept : Bool) (r : Row) (rs : List Row) → is_before r.path f ≡ true → after_edited f present kept (r ∷ rs) ≡ r ∷ after_edited f present kept rs
+passed f present kept r rs b =
+    ap (λ x. cond x (edited_row present kept r ∷ rs) (cond (is_before f r.path) (edited_row present kept (new_row f) ∷ r ∷ rs) (r ∷ after_edited f present kept rs))) (apart_back r.path f b)
+    ∙ ap (λ x. cond x (edited_row present kept (new_row f) ∷ r ∷ rs) (r ∷ after_edited f present kept rs)) (not_back r.path f b)
 
 -- a path that isn't that of a row, which doesn't stand before it, stands before the row
 before_else : (f g : Path) → bytes_eq f g ≡ false → is_before g f ≡ false → is_before f g ≡ true
 before_else f g other behind = either g f (sym (same_test g f) ∙ other) behind
 
 -- the row of the path is changed at its index
-pub edited_at : (f : Path) (present : Bool) (rows : List Row) (row : Row) → slice_get rows (place_of f rows) ≡ Some row → bytes_eq f row.path ≡ true
-    → slice_set rows (place_of f rows) (edited_row present row) ≡ after_edited f present rows
-edited_at f present [] row is same = grind (arith, is)
-edited_at f present (r ∷ rs) row is same = by (is_before r.path f) refl is (edited_at f present rs row)
+pub edited_at : (f : Path) (present kept : Bool) (rows : List Row) (row : Row) → slice_get rows (place_of f rows) ≡ Some row → bytes_eq f row.path ≡ true
+    → slice_set rows (place_of f rows) (edited_row present kept row) ≡ after_edited f present kept rows
+edited_at f present kept [] row is same = grind (arith, is)
+edited_at f present kept (r ∷ rs) row is same = by (is_before r.path f) refl is (edited_at f present kept rs row)
   where
     by : (b : Bool) → is_before r.path f ≡ b → slice_get (r ∷ rs) (cond b (suc (place_of f rs)) 0) ≡ Some row
-        → (slice_get rs (place_of f rs) ≡ Some row → bytes_eq f row.path ≡ true → slice_set rs (place_of f rs) (edited_row present row) ≡ after_edited f present rs)
-        → slice_set (r ∷ rs) (cond b (suc (place_of f rs)) 0) (edited_row present row) ≡ after_edited f present (r ∷ rs)
+        → (slice_get rs (place_of f rs) ≡ Some row → bytes_eq f row.path ≡ true → slice_set rs (place_of f rs) (edited_row present kept row) ≡ after_edited f present kept rs)
+        → slice_set (r ∷ rs) (cond b (suc (place_of f rs)) 0) (edited_row present kept row) ≡ after_edited f present kept (r ∷ rs)
     by true b is ih =
         ap (λ rest. r ∷ rest) (ih is same)
-        ∙ sym (passed f present r rs b)
+        ∙ sym (passed f present kept r rs b)
     by false b is ih =
-        ap (λ q. edited_row present q ∷ rs) (sym (some_same is))
-        ∙ sym (ap (λ x. cond x (edited_row present r ∷ rs) (cond (is_before f r.path) (edited_row present (new_row f) ∷ r ∷ rs) (r ∷ after_edited f present rs))) (ap (λ (q : Row). bytes_eq f q.path) (some_same is) ∙ same))
+        ap (λ q. edited_row present kept q ∷ rs) (sym (some_same is))
+        ∙ sym (ap (λ x. cond x (edited_row present kept r ∷ rs) (cond (is_before f r.path) (edited_row present kept (new_row f) ∷ r ∷ rs) (r ∷ after_edited f present kept rs))) (ap (λ (q : Row). bytes_eq f q.path) (some_same is) ∙ same))
 
 -- a new row is inserted at its index
-pub inserted_at : (f : Path) (present : Bool) (rows : List Row) → ((row : Row) → slice_get rows (place_of f rows) ≡ Some row → bytes_eq f row.path ≡ false)
-    → insert rows (place_of f rows) (edited_row present (new_row f)) ≡ after_edited f present rows
-inserted_at f present [] other = refl
-inserted_at f present (r ∷ rs) other = by (is_before r.path f) refl other (inserted_at f present rs)
+pub inserted_at : (f : Path) (present kept : Bool) (rows : List Row) → ((row : Row) → slice_get rows (place_of f rows) ≡ Some row → bytes_eq f row.path ≡ false)
+    → insert rows (place_of f rows) (edited_row present kept (new_row f)) ≡ after_edited f present kept rows
+inserted_at f present kept [] other = refl
+inserted_at f present kept (r ∷ rs) other = by (is_before r.path f) refl other (inserted_at f present kept rs)
   where
     by : (b : Bool) → is_before r.path f ≡ b → ((row : Row) → slice_get (r ∷ rs) (cond b (suc (place_of f rs)) 0) ≡ Some row → bytes_eq f row.path ≡ false)
-        → (((row : Row) → slice_get rs (place_of f rs) ≡ Some row → bytes_eq f row.path ≡ false) → insert rs (place_of f rs) (edited_row present (new_row f)) ≡ after_edited f present rs)
-        → insert (r ∷ rs) (cond b (suc (place_of f rs)) 0) (edited_row present (new_row f)) ≡ after_edited f present (r ∷ rs)
-    by true b other ih = ap (λ rest. r ∷ rest) (ih other) ∙ sym (passed f present r rs b)
+        → (((row : Row) → slice_get rs (place_of f rs) ≡ Some row → bytes_eq f row.path ≡ false) → insert rs (place_of f rs) (edited_row present kept (new_row f)) ≡ after_edited f present kept rs)
+        → insert (r ∷ rs) (cond b (suc (place_of f rs)) 0) (edited_row present kept (new_row f)) ≡ after_edited f present kept (r ∷ rs)
+    by true b other ih = ap (λ rest. r ∷ rest) (ih other) ∙ sym (passed f present kept r rs b)
     by false b other ih =
         let apart_here = other r refl in
-        sym (ap (λ x. cond x (edited_row present r ∷ rs) (cond (is_before f r.path) (edited_row present (new_row f) ∷ r ∷ rs) (r ∷ after_edited f present rs))) apart_here
-        ∙ ap (λ x. cond x (edited_row present (new_row f) ∷ r ∷ rs) (r ∷ after_edited f present rs)) (before_else f r.path apart_here b))
+        sym (ap (λ x. cond x (edited_row present kept r ∷ rs) (cond (is_before f r.path) (edited_row present kept (new_row f) ∷ r ∷ rs) (r ∷ after_edited f present kept rs))) apart_here
+        ∙ ap (λ x. cond x (edited_row present kept (new_row f) ∷ r ∷ rs) (r ∷ after_edited f present kept rs)) (before_else f r.path apart_here b))
 
 -- ---- what loops and writes leave
 
@@ -165,18 +165,18 @@ worked_set rows i old new row list order within is written row_is =
     ap (slice_set rows i) (written ∙ ap (worked_row list) (some_same (sym (slice_get_read rows (length rows) i old refl within is) ∙ row_is))) ∙ worked_at rows i row list order row_is
 
 -- what was written at the index of a row that was edited
-pub edited_set : (f : Path) (present : Bool) (rows : List Row) (i : ℕ) (old new : Row) → i ≡ place_of f rows → is_path_of f (slice_get rows i) ≡ true → i < length rows → old ≡ get_or rows i old → new ≡ edited_row present old
-    → slice_set rows i new ≡ after_edited f present rows
-edited_set f present rows i old new place at within is written =
+pub edited_set : (f : Path) (present kept : Bool) (rows : List Row) (i : ℕ) (old new : Row) → i ≡ place_of f rows → is_path_of f (slice_get rows i) ≡ true → i < length rows → old ≡ get_or rows i old → new ≡ edited_row present kept old
+    → slice_set rows i new ≡ after_edited f present kept rows
+edited_set f present kept rows i old new place at within is written =
     let read = slice_get_read rows (length rows) i old refl within is in
-    ap (slice_set rows i) written ∙ ap (λ j. slice_set rows j (edited_row present old)) place
-    ∙ edited_at f present rows old (ap (slice_get rows) (sym place) ∙ read) (ap (is_path_of f) (sym read) ∙ at)
+    ap (slice_set rows i) written ∙ ap (λ j. slice_set rows j (edited_row present kept old)) place
+    ∙ edited_at f present kept rows old (ap (slice_get rows) (sym place) ∙ read) (ap (is_path_of f) (sym read) ∙ at)
 
-pub inserted_set : (f : Path) (present : Bool) (rows : List Row) (i : ℕ) (new : Row) → i ≡ place_of f rows → is_path_of f (slice_get rows i) ≡ false → new ≡ edited_row present (new_row f)
-    → insert rows i new ≡ after_edited f present rows
-inserted_set f present rows i new place at written =
-    ap (insert rows i) written ∙ ap (λ j. insert rows j (edited_row present (new_row f))) place
-    ∙ inserted_at f present rows (λ row is. ap (is_path_of f) (sym is ∙ ap (slice_get rows) (sym place)) ∙ at)
+pub inserted_set : (f : Path) (present kept : Bool) (rows : List Row) (i : ℕ) (new : Row) → i ≡ place_of f rows → is_path_of f (slice_get rows i) ≡ false → new ≡ edited_row present kept (new_row f)
+    → insert rows i new ≡ after_edited f present kept rows
+inserted_set f present kept rows i new place at written =
+    ap (insert rows i) written ∙ ap (λ j. insert rows j (edited_row present kept (new_row f))) place
+    ∙ inserted_at f present kept rows (λ row is. ap (is_path_of f) (sym is ∙ ap (slice_get rows) (sym place)) ∙ at)
 
 -- a build, up to the index
 pub built_step : (all now : List Row) (i : ℕ) (row new : Row) → now ≡ after_built (take i all) ++ drop i all → i < length all → row ≡ get_or now i row → new ≡ built_row row

@@ -148,36 +148,36 @@ lists-built (r ∷ rs) = ap (with_list r.path r.shown) (lists-built rs)
 
 -- ---- an edit
 
-pub edited-before : (g f : Path) (present : Bool) (rows : List Row) → is_before g f ≡ true → IsBeforeRows g rows → IsBeforeRows g (after_edited f present rows)
-edited-before g f present [] e all = (e, tt)
-edited-before g f present (r ∷ rs) e all = by (bytes_eq f r.path) (is_before f r.path) (edited-before g f present rs e all.1)
+pub edited-before : (g f : Path) (present kept : Bool) (rows : List Row) → is_before g f ≡ true → IsBeforeRows g rows → IsBeforeRows g (after_edited f present kept rows)
+edited-before g f present kept [] e all = (e, tt)
+edited-before g f present kept (r ∷ rs) e all = by (bytes_eq f r.path) (is_before f r.path) (edited-before g f present kept rs e all.1)
   where
-    by : (same before : Bool) → IsBeforeRows g (after_edited f present rs)
-        → IsBeforeRows g (cond same (edited_row present r ∷ rs) (cond before (edited_row present (new_row f) ∷ r ∷ rs) (r ∷ after_edited f present rs)))
+    by : (same before : Bool) → IsBeforeRows g (after_edited f present kept rs)
+        → IsBeforeRows g (cond same (edited_row present kept r ∷ rs) (cond before (edited_row present kept (new_row f) ∷ r ∷ rs) (r ∷ after_edited f present kept rs)))
     by true before rest = all
     by false true rest = (e, all)
     by false false rest = (all.0, rest)
 
-pub edited-ordered : (f : Path) (present : Bool) (rows : List Row) → IsOrdered rows → IsOrdered (after_edited f present rows)
-edited-ordered f present [] order = (tt, tt)
-edited-ordered f present (r ∷ rs) order = by (bytes_eq f r.path) (is_before f r.path) refl refl (edited-ordered f present rs order.1)
+pub edited-ordered : (f : Path) (present kept : Bool) (rows : List Row) → IsOrdered rows → IsOrdered (after_edited f present kept rows)
+edited-ordered f present kept [] order = (tt, tt)
+edited-ordered f present kept (r ∷ rs) order = by (bytes_eq f r.path) (is_before f r.path) refl refl (edited-ordered f present kept rs order.1)
   where
-    by : (same before : Bool) → bytes_eq f r.path ≡ same → is_before f r.path ≡ before → IsOrdered (after_edited f present rs)
-        → IsOrdered (cond same (edited_row present r ∷ rs) (cond before (edited_row present (new_row f) ∷ r ∷ rs) (r ∷ after_edited f present rs)))
+    by : (same before : Bool) → bytes_eq f r.path ≡ same → is_before f r.path ≡ before → IsOrdered (after_edited f present kept rs)
+        → IsOrdered (cond same (edited_row present kept r ∷ rs) (cond before (edited_row present kept (new_row f) ∷ r ∷ rs) (r ∷ after_edited f present kept rs)))
     by true before e b rest = order
     by false true e b rest = ((b, before_through f r.path rs b order.0), order)
-    by false false e b rest = (edited-before r.path f present rs (either f r.path e b) order.0, rest)
+    by false false e b rest = (edited-before r.path f present kept rs (either f r.path e b) order.0, rest)
 
 -- a mark that the edit sets
-pub marked-edited-with : (m : Mark) (f : Path) (present : Bool) (rows : List Row) → ((r : Row) → has_mark m (edited_row present r) ≡ true) → IsOrdered rows
-    → marked m (after_edited f present rows) ≡ with_path f (marked m rows)
-marked-edited-with m f present [] sets order = ap (λ b. cond b (f ∷ []) []) (sets (new_row f))
-marked-edited-with m f present (r ∷ rs) sets order =
-    by (bytes_eq f r.path) (is_before f r.path) (has_mark m r) refl refl refl (marked-edited-with m f present rs sets order.1)
+pub marked-edited-with : (m : Mark) (f : Path) (present kept : Bool) (rows : List Row) → ((r : Row) → has_mark m (edited_row present kept r) ≡ true) → IsOrdered rows
+    → marked m (after_edited f present kept rows) ≡ with_path f (marked m rows)
+marked-edited-with m f present kept [] sets order = ap (λ b. cond b (f ∷ []) []) (sets (new_row f))
+marked-edited-with m f present kept (r ∷ rs) sets order =
+    by (bytes_eq f r.path) (is_before f r.path) (has_mark m r) refl refl refl (marked-edited-with m f present kept rs sets order.1)
   where
     by : (same before has : Bool) → bytes_eq f r.path ≡ same → is_before f r.path ≡ before → has_mark m r ≡ has
-        → marked m (after_edited f present rs) ≡ with_path f (marked m rs)
-        → marked m (cond same (edited_row present r ∷ rs) (cond before (edited_row present (new_row f) ∷ r ∷ rs) (r ∷ after_edited f present rs)))
+        → marked m (after_edited f present kept rs) ≡ with_path f (marked m rs)
+        → marked m (cond same (edited_row present kept r ∷ rs) (cond before (edited_row present kept (new_row f) ∷ r ∷ rs) (r ∷ after_edited f present kept rs)))
         ≡ with_path f (cond has (r.path ∷ marked m rs) (marked m rs))
     by true before true e b h ih =
         ap (λ x. cond x (r.path ∷ marked m rs) (marked m rs)) (sets r)
@@ -195,23 +195,23 @@ marked-edited-with m f present (r ∷ rs) sets order =
         ∙ ap (λ x. f ∷ cond x (r.path ∷ marked m rs) (marked m rs)) h
         ∙ sym (with_path-first f (marked m rs) (marked-before m f rs (before_through f r.path rs b order.0)))
     by false false true e b h ih =
-        ap (λ x. cond x (r.path ∷ marked m (after_edited f present rs)) (marked m (after_edited f present rs))) h
+        ap (λ x. cond x (r.path ∷ marked m (after_edited f present kept rs)) (marked m (after_edited f present kept rs))) h
         ∙ ap (λ t. r.path ∷ t) ih
         ∙ sym (ap (λ x. cond x (f ∷ r.path ∷ marked m rs) (r.path ∷ with_path f (marked m rs))) b)
         ∙ sym (ap (λ x. cond x (r.path ∷ marked m rs) (cond (is_before f r.path) (f ∷ r.path ∷ marked m rs) (r.path ∷ with_path f (marked m rs)))) e)
     by false false false e b h ih =
-        ap (λ x. cond x (r.path ∷ marked m (after_edited f present rs)) (marked m (after_edited f present rs))) h ∙ ih
+        ap (λ x. cond x (r.path ∷ marked m (after_edited f present kept rs)) (marked m (after_edited f present kept rs))) h ∙ ih
 
 -- a mark that the edit takes away
-pub marked-edited-without : (m : Mark) (f : Path) (present : Bool) (rows : List Row) → ((r : Row) → has_mark m (edited_row present r) ≡ false) → IsOrdered rows
-    → marked m (after_edited f present rows) ≡ without_path f (marked m rows)
-marked-edited-without m f present [] clears order = ap (λ b. cond b (f ∷ []) []) (clears (new_row f))
-marked-edited-without m f present (r ∷ rs) clears order =
-    by (bytes_eq f r.path) (is_before f r.path) (has_mark m r) refl refl refl (marked-edited-without m f present rs clears order.1)
+pub marked-edited-without : (m : Mark) (f : Path) (present kept : Bool) (rows : List Row) → ((r : Row) → has_mark m (edited_row present kept r) ≡ false) → IsOrdered rows
+    → marked m (after_edited f present kept rows) ≡ without_path f (marked m rows)
+marked-edited-without m f present kept [] clears order = ap (λ b. cond b (f ∷ []) []) (clears (new_row f))
+marked-edited-without m f present kept (r ∷ rs) clears order =
+    by (bytes_eq f r.path) (is_before f r.path) (has_mark m r) refl refl refl (marked-edited-without m f present kept rs clears order.1)
   where
     by : (same before has : Bool) → bytes_eq f r.path ≡ same → is_before f r.path ≡ before → has_mark m r ≡ has
-        → marked m (after_edited f present rs) ≡ without_path f (marked m rs)
-        → marked m (cond same (edited_row present r ∷ rs) (cond before (edited_row present (new_row f) ∷ r ∷ rs) (r ∷ after_edited f present rs)))
+        → marked m (after_edited f present kept rs) ≡ without_path f (marked m rs)
+        → marked m (cond same (edited_row present kept r ∷ rs) (cond before (edited_row present kept (new_row f) ∷ r ∷ rs) (r ∷ after_edited f present kept rs)))
         ≡ without_path f (cond has (r.path ∷ marked m rs) (marked m rs))
     by true before true e b h ih =
         ap (λ x. cond x (r.path ∷ marked m rs) (marked m rs)) (clears r)
@@ -229,32 +229,32 @@ marked-edited-without m f present (r ∷ rs) clears order =
         ∙ ap (λ x. cond x (r.path ∷ marked m rs) (marked m rs)) h
         ∙ sym (without_path-none f (marked m rs) (marked-before m f rs (before_through f r.path rs b order.0)))
     by false false true e b h ih =
-        ap (λ x. cond x (r.path ∷ marked m (after_edited f present rs)) (marked m (after_edited f present rs))) h
+        ap (λ x. cond x (r.path ∷ marked m (after_edited f present kept rs)) (marked m (after_edited f present kept rs))) h
         ∙ ap (λ t. r.path ∷ t) ih
         ∙ sym (ap (λ x. cond x (without_path f (marked m rs)) (r.path ∷ without_path f (marked m rs))) e)
     by false false false e b h ih =
-        ap (λ x. cond x (r.path ∷ marked m (after_edited f present rs)) (marked m (after_edited f present rs))) h ∙ ih
+        ap (λ x. cond x (r.path ∷ marked m (after_edited f present kept rs)) (marked m (after_edited f present kept rs))) h ∙ ih
 
 -- a mark that the edit leaves
-pub marked-edited-same : (m : Mark) (f : Path) (present : Bool) (rows : List Row) → ((r : Row) → has_mark m (edited_row present r) ≡ has_mark m r) → has_mark m (new_row f) ≡ false
-    → marked m (after_edited f present rows) ≡ marked m rows
-marked-edited-same m f present [] same new = ap (λ b. cond b (f ∷ []) []) (same (new_row f) ∙ new)
-marked-edited-same m f present (r ∷ rs) same new =
-    by (bytes_eq f r.path) (is_before f r.path) (marked-edited-same m f present rs same new)
+pub marked-edited-same : (m : Mark) (f : Path) (present kept : Bool) (rows : List Row) → ((r : Row) → has_mark m (edited_row present kept r) ≡ has_mark m r) → has_mark m (new_row f) ≡ false
+    → marked m (after_edited f present kept rows) ≡ marked m rows
+marked-edited-same m f present kept [] same new = ap (λ b. cond b (f ∷ []) []) (same (new_row f) ∙ new)
+marked-edited-same m f present kept (r ∷ rs) same new =
+    by (bytes_eq f r.path) (is_before f r.path) (marked-edited-same m f present kept rs same new)
   where
-    by : (here before : Bool) → marked m (after_edited f present rs) ≡ marked m rs
-        → marked m (cond here (edited_row present r ∷ rs) (cond before (edited_row present (new_row f) ∷ r ∷ rs) (r ∷ after_edited f present rs)))
+    by : (here before : Bool) → marked m (after_edited f present kept rs) ≡ marked m rs
+        → marked m (cond here (edited_row present kept r ∷ rs) (cond before (edited_row present kept (new_row f) ∷ r ∷ rs) (r ∷ after_edited f present kept rs)))
         ≡ marked m (r ∷ rs)
     by true before ih = ap (λ x. cond x (r.path ∷ marked m rs) (marked m rs)) (same r)
     by false true ih = ap (λ x. cond x (f ∷ marked m (r ∷ rs)) (marked m (r ∷ rs))) (same (new_row f) ∙ new)
     by false false ih = ap (λ (t : List Path). cond (has_mark m r) (r.path ∷ t) t) ih
 
-pub lists-edited : (f : Path) (present : Bool) (rows : List Row) → lists_shown (after_edited f present rows) ≡ lists_shown rows
-lists-edited f present [] = refl
-lists-edited f present (r ∷ rs) = by (bytes_eq f r.path) (is_before f r.path) (lists-edited f present rs)
+pub lists-edited : (f : Path) (present kept : Bool) (rows : List Row) → lists_shown (after_edited f present kept rows) ≡ lists_shown rows
+lists-edited f present kept [] = refl
+lists-edited f present kept (r ∷ rs) = by (bytes_eq f r.path) (is_before f r.path) (lists-edited f present kept rs)
   where
-    by : (here before : Bool) → lists_shown (after_edited f present rs) ≡ lists_shown rs
-        → lists_shown (cond here (edited_row present r ∷ rs) (cond before (edited_row present (new_row f) ∷ r ∷ rs) (r ∷ after_edited f present rs)))
+    by : (here before : Bool) → lists_shown (after_edited f present kept rs) ≡ lists_shown rs
+        → lists_shown (cond here (edited_row present kept r ∷ rs) (cond before (edited_row present kept (new_row f) ∷ r ∷ rs) (r ∷ after_edited f present kept rs)))
         ≡ lists_shown (r ∷ rs)
     by true before ih = refl
     by false true ih = refl

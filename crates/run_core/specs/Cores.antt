@@ -2,7 +2,8 @@
 use Rattle.std.specs.Prelude.{◌≡◌, ◌≢◌, ◌⊎◌, ℕ, ◌+◌, ◌-◌, ◌^◌, min, Bool, true, false, not, ◌&&◌, List, [], map, Option, Some, None, unwrap_or, IsTrue, IsFalse, if◌then◌else◌}
 use Rattle.std.specs.Option.{option_map}
 use Rattle.srb_check.specs.Checks.{fresh}
-use Rattle.srb_check.specs.Jobs.{IsJobOf, Known}
+use Rattle.srb_check.specs.FactLists.{same_facts}
+use Rattle.srb_check.specs.Jobs.{IsJobOf, Known, facts_in}
 use Rattle.srb_terms.specs.Projects.{bytes_at}
 use Rattle.srb_terms.specs.declared.diag.Diag.{Diag}
 use Rattle.lsp_msg.specs.declared.id.Id.{Id}
@@ -14,8 +15,9 @@ use Rattle.run_watch.specs.declared.inp.Inp.TheVariants.{Msg, End}
 use Rattle.run_watch.specs.declared.step.Step.{Step}
 use Rattle.run_watch.specs.declared.step.Step.TheVariants.{Work}
 use Rattle.lsp_docs.specs.Paths.{Path, is_before}
-use Rattle.lsp_docs.specs.Projects.{paths_of}
-use Rattle.lsp_docs.specs.Documents.{Documents, placed, uri_of}
+use Rattle.lsp_docs.specs.Projects.{Project, Edit, paths_of}
+use Rattle.lsp_docs.specs.Documents.{Documents, after_deed, placed, uri_of}
+use Rattle.lsp_docs.specs.Documents.Deed.{Edits}
 use Rattle.lsp_docs.specs.Uris.{is_empty}
 use Rattle.run_core.specs.Language.{Language}
 use Rattle.run_core.specs.Sessions.{Phase, Waiting, Serving, Closing}
@@ -24,12 +26,16 @@ use Rattle.run_core.specs.declared.mark.Mark.TheVariants.{Present, Todo, Owed, E
 use Rattle.run_core.specs.declared.row.Row.{Row}
 use Rattle.run_core.specs.declared.landed.Landed.{Landed}
 use Rattle.run_core.specs.declared.landed.Landed.TheVariants.{Shown, Quiet}
-use Rattle.run_core.specs.Machine.{State, looked, may_work, Permits, next, written}
+use Rattle.run_core.specs.Machine.{State, looked, may_work, after_taken_edit, Permits, next, written}
 
--- The language that is checked: the errors of a file are those of a fresh check, and no edit is taken to keep the errors
--- of the other files.
+-- whether the file of an edit declares the same after it as before it
+abbrev pub keeps_facts : Project → Edit → Bool
+keeps_facts p e = same_facts (facts_in (bytes_at e.path p)) (facts_in e.now)
+
+-- The language that is checked: the errors of a file are those of a fresh check, and an edit keeps the errors of the other
+-- files where its file declares the same after it.
 abbrev pub checked_language : Language
-checked_language = record { fresh = fresh; keeps = λ p e. false }
+checked_language = record { fresh = fresh; keeps = keeps_facts }
 
 -- What a core tells: its state, and how many files it worked on that weren't owed.
 pub record Account : Type 0 where
@@ -103,14 +109,38 @@ state_of documents phase rows epoch stale seen owing ended = record {
   ended = ended;
 }
 
+-- `initialize` isn't accepted yet
+abbrev pub is_waiting : Phase → Bool
+is_waiting Waiting = true
+is_waiting Serving = false
+is_waiting Closing = false
+
 -- What always holds of a core.
-pub record IsCore (documents : Documents) (stale : Bool) (rows : List Row) (job : Known) : Type 0 where
+pub record IsCore (phase : Phase) (documents : Documents) (stale : Bool) (rows : List Row) (job : Known) : Type 0 where
   -- the rows know which files the project has
   pub paths : marked Present rows ≡ paths_of documents.project
   -- where nothing is stale each owed file is one to be worked on
   pub asked : stale ≡ false → OwedAreAsked rows
-  -- where nothing is stale and some file is to be worked on, the job is that of the project as it is now
-  pub built : stale ≡ false → IsFalse (is_empty (marked Todo rows)) → IsJobOf documents.project job
+  -- before `initialize` nothing is stale or to be worked on
+  pub waiting : is_waiting phase ≡ true → (stale ≡ false) × (marked Todo rows ≡ [])
+  -- after it, where nothing is stale, the job is that of the project as it is now
+  pub built : is_waiting phase ≡ false → stale ≡ false → IsJobOf documents.project job
+
+-- whether the file at the path declares the same in both projects
+abbrev pub keeps_at : Path → Project → Project → Bool
+keeps_at f old new = same_facts (facts_in (bytes_at f old)) (facts_in (bytes_at f new))
+
+-- the state after an edit of the path that left these documents
+abbrev pub after_edit_at : State → Documents → Path → Bool → State
+after_edit_at s d f kept =
+    record (after_taken_edit s kept f) { session = record { phase = s.session.phase; documents = d }; seen = false }
+
+-- The second documents are those after an edit of the first, of this path.
+pub record IsEdited (old new : Documents) (path : Path) : Type 0 where
+  pub edit : Edit
+  pub opened : List Path
+  pub done : new ≡ after_deed old (Edits edit opened)
+  pub named : path ≡ edit.path
 
 -- The list found in a row's file has to be written: the file is owed, or it isn't the list written last.
 abbrev pub IsDue : Row → List Diag → Bool → Type 0

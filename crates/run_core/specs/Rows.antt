@@ -55,16 +55,17 @@ OwedAreAsked (r ∷ rs) = (IsTrue r.owed → IsTrue r.todo) × OwedAreAsked rs
 abbrev pub new_row : Path → Row
 new_row f = record { path = f; present = false; todo = false; owed = false; edited = false; shown = None }
 
--- the row of a file after an edit: it is owed, and the project has the file or it hasn't
-abbrev pub edited_row : Bool → Row → Row
-edited_row present r = record r { present = present; owed = true; edited = true }
+-- the row of a file after an edit: it is owed, and the project has the file or it hasn't; where the edit keeps the errors of the
+-- other files, it is to be worked on
+abbrev pub edited_row : Bool → Bool → Row → Row
+edited_row present kept r = record r { present = present; todo = kept || r.todo; owed = true; edited = true }
 
 -- the rows after an edit of the path
-abbrev pub after_edited : Path → Bool → List Row → List Row
-after_edited f present [] = edited_row present (new_row f) ∷ []
-after_edited f present (r ∷ rs) =
-    if bytes_eq f r.path then edited_row present r ∷ rs
-    else (if is_before f r.path then edited_row present (new_row f) ∷ r ∷ rs else r ∷ after_edited f present rs)
+abbrev pub after_edited : Path → Bool → Bool → List Row → List Row
+after_edited f present kept [] = edited_row present kept (new_row f) ∷ []
+after_edited f present kept (r ∷ rs) =
+    if bytes_eq f r.path then edited_row present kept r ∷ rs
+    else (if is_before f r.path then edited_row present kept (new_row f) ∷ r ∷ rs else r ∷ after_edited f present kept rs)
 
 -- the rows after a build: all files of the project and all owed ones are to be worked on
 abbrev pub built_row : Row → Row

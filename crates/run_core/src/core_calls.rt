@@ -1,19 +1,21 @@
 //! The core and its calls, each of which makes one step of the machine or tells of its state.
 
-ghost use Rattle.std.specs.Prelude.{◌≡◌, ◌+◌, ◌<◌, ◌≤◌, true, not, length, None, is_some, IsTrue, IsFalse, IsNone, IsSome, IfOk, OnOk, OnErr};
-ghost use Rattle.std.specs.Option.{option_copied};
+ghost use Rattle.std.specs.Prelude.{◌≡◌, ◌+◌, ◌-◌, ◌^◌, ◌<◌, ◌≤◌, ◌||◌, true, not, length, None, is_some, IsTrue, IsFalse, IsNone, IsSome, IfOk, OnOk, OnErr};
+ghost use Rattle.std.specs.Option.{option_copied, option_map};
 ghost use Rattle.lsp_docs.specs.Documents.{MOST_FILES, applied};
 ghost use Rattle.srb_text.specs.Limits.{MOST_BYTES};
 ghost use Rattle.lsp_docs.specs.Projects.{total_bytes};
 ghost use Rattle.lsp_docs.specs.Uris.{is_empty};
 ghost use Rattle.run_watch.specs.declared.inp.Inp.TheVariants as inp;
 ghost use Rattle.run_watch.specs.declared.step.Step.TheVariants.{Take, Look, Build, Idle};
-ghost use Rattle.run_core.specs.Cores.{Lands, Makes, IsNextOwn, checks_after, end_of, ended_by, has_own};
-ghost use Rattle.run_core.specs.Machine.{is_at_rest, looked, opening};
+ghost use Rattle.srb_check.specs.Records.{loaded};
+ghost use Rattle.srb_terms.specs.Projects.{bytes_at};
+ghost use Rattle.run_core.specs.Cores.{Lands, Makes, IsEdited, IsNextOwn, after_edit_at, checks_after, end_of, ended_by, has_own, keeps_at};
+ghost use Rattle.run_core.specs.Machine.{is_at_rest, looked, opening, project_of};
 ghost use Rattle.run_core.specs.Sessions.{Waiting, Serving};
 
 use crate::answers::{closing_answer, log_of, reason_of, serving_answer, waiting_answer};
-use crate::builds::job_of;
+use crate::builds::{edited_job, is_kept, job_of, stays};
 use crate::checks::{is_due, landed_of, list_if, with_check};
 use crate::landed::Landed;
 use crate::phase::Phase;
@@ -21,8 +23,8 @@ use crate::rows::{Rows, next_row};
 use lsp_docs::Docs;
 use lsp_msg::{Id, Msg, Out};
 use run_watch::{EndCause, Inp};
-use srb_check::Job;
-use srb_terms::{Name, NoMemory, Project, Steps};
+use srb_check::{FileRec, Job};
+use srb_terms::{Boxed, Name, NoMemory, Project, Steps};
 use std::alloc::{AllocError, Global};
 use std::marker::Model;
 use std::sync::ledger::Ledger;
@@ -50,7 +52,7 @@ impl Model for Core {
 
     ghost view = { λ c. record { state = state_of c.docs c.phase c.rows.list c.epoch c.stale c.seen c.owing c.ended; own_checks = c.own_checks } };
 
-    ghost invariant = { λ c. IsCore c.docs c.stale c.rows.list c.job };
+    ghost invariant = { λ c. IsCore c.phase c.docs c.stale c.rows.list c.job };
 }
 
 impl Core {
@@ -62,13 +64,14 @@ impl Core {
         ensures state { IfOk result (λ core. core.state ≡ opening files) }
         ensures checks { IfOk result (λ core. core.own_checks ≡ 0) }
     {
+        let job = Job::empty(alloc)?;
         let rows = Rows::new(alloc, &files)?;
         let docs = Docs::new(alloc, files)?;
         Ok(Core {
             docs,
             phase: Phase::Waiting,
             rows,
-            job: Job::empty(alloc),
+            job,
             epoch: 0,
             stale: false,
             seen: false,
@@ -79,7 +82,8 @@ impl Core {
     }
 
     /// Takes the next input, and answers the message to be written, if there is one. After an error the core is as it
-    /// was. An edit past the greatest `u64` is refused as want of memory.
+    /// was. An edit past the greatest `u64` is refused as want of memory. Of an edit its own file is loaded at once; where it
+    /// declares the same as before, the symbol table stays.
     pub fn take(&mut self, alloc: Global, inp: Inp) -> Result<Option<Out>, NoMemory>
         requires { IsNone self.old.state.ended }
         ensures makes { IfOk result (λ out. Makes self.old.state self.new.state (Take inp) out) }
@@ -114,6 +118,7 @@ impl Core {
         }
     }
 
+    #[tactic(auto, using(crate::proofs::CoreSteps::begun_core))]
     fn take_waiting(&mut self, alloc: Global, msg: Msg) -> Result<Option<Out>, NoMemory>
         requires ended { IsNone self.old.state.ended }
         requires phase { self.old.state.session.phase ≡ Waiting }
@@ -131,6 +136,7 @@ impl Core {
         Ok(waiting_answer(msg))
     }
 
+    #[tactic(auto, using(crate::proofs::CoreSteps::closing_core))]
     fn take_serving(&mut self, alloc: Global, msg: Msg) -> Result<Option<Out>, NoMemory>
         requires ended { IsNone self.old.state.ended }
         requires phase { self.old.state.session.phase ≡ Serving }
@@ -165,17 +171,15 @@ impl Core {
         if self.epoch == u64::MAX {
             return Err(AllocError);
         }
-        self.rows.reserve()?;
-        match self.docs.apply(alloc, msg) {
+        let mut docs = self.docs.copied(alloc)?;
+        match docs.apply(alloc, msg) {
             Ok(applied) => {
-                self.seen = false;
-                if !applied.edit {
+                if applied.edit {
+                    self.take_edit(alloc, docs, &applied.path)?;
                     return Ok(None);
                 }
-                let present = self.docs.bytes(&applied.path).is_some();
-                self.rows.edit(applied.path, present);
-                self.epoch += 1;
-                self.stale = true;
+                self.docs = docs;
+                self.seen = false;
                 Ok(None)
             }
             Err(end) => match reason_of(end) {
@@ -187,6 +191,83 @@ impl Core {
                 None => Err(AllocError),
             },
         }
+    }
+
+    // Takes an edit of the file at `path`, which left these documents.
+    fn take_edit(&mut self, alloc: Global, docs: Docs, path: &Name) -> Result<(), NoMemory>
+        requires phase { self.old.state.session.phase ≡ Serving }
+        requires epoch { self.old.state.epoch < 2 ^ 64 - 1 }
+        requires edited { IsEdited self.old.state.session.documents docs path.now }
+        ensures state { OnOk result (self.new.state ≡ after_edit_at self.old.state docs path.now (keeps_at path.now (project_of self.old.state) docs.project)) }
+        ensures ended { self.new.state.ended ≡ self.old.state.ended }
+        ensures checks { self.new.own_checks ≡ self.old.own_checks }
+        ensures err { OnErr result (self.new ≡ self.old) }
+    {
+        let file = self.job.load_at(alloc, path, docs.bytes(path))?;
+        let kept = is_kept(alloc, &self.docs, path, &file, &self.job)?;
+        if stays(kept, self.stale) {
+            self.take_kept(alloc, docs, path, &file)
+        } else {
+            self.take_changed(docs, path, file.is_some(), kept)
+        }
+    }
+
+    // Takes an edit where the symbol table is stale after it. Where the edit keeps it, it was stale before.
+    fn take_changed(
+        &mut self,
+        docs: Docs,
+        path: &Name,
+        present: bool,
+        kept: bool,
+    ) -> Result<(), NoMemory>
+        requires phase { self.old.state.session.phase ≡ Serving }
+        requires epoch { self.old.state.epoch < 2 ^ 64 - 1 }
+        requires edited { IsEdited self.old.state.session.documents docs path.now }
+        requires present { present ≡ is_some (bytes_at path.now docs.project) }
+        requires stale { IsTrue (not kept || self.old.state.stale) }
+        ensures state { OnOk result (self.new.state ≡ after_edit_at self.old.state docs path.now kept) }
+        ensures ended { self.new.state.ended ≡ self.old.state.ended }
+        ensures checks { self.new.own_checks ≡ self.old.own_checks }
+        ensures err { OnErr result (self.new ≡ self.old) }
+    {
+        let path = path.copied()?;
+        self.rows.reserve()?;
+        self.rows.edit(path, present, kept);
+        self.docs = docs;
+        self.epoch += 1;
+        self.stale = true;
+        self.seen = false;
+        Ok(())
+    }
+
+    // Takes an edit that keeps the symbol table, which isn't stale. This is the record of the file after it.
+    fn take_kept(
+        &mut self,
+        alloc: Global,
+        docs: Docs,
+        path: &Name,
+        file: &Option<Boxed<FileRec>>,
+    ) -> Result<(), NoMemory>
+        requires phase { self.old.state.session.phase ≡ Serving }
+        requires epoch { self.old.state.epoch < 2 ^ 64 - 1 }
+        requires edited { IsEdited self.old.state.session.documents docs path.now }
+        requires file { file.now ≡ option_map loaded (bytes_at path.now docs.project) }
+        requires kept { IsTrue (keeps_at path.now (project_of self.old.state) docs.project) }
+        requires built { IsFalse self.old.state.stale }
+        ensures state { OnOk result (self.new.state ≡ after_edit_at self.old.state docs path.now true) }
+        ensures ended { self.new.state.ended ≡ self.old.state.ended }
+        ensures checks { self.new.own_checks ≡ self.old.own_checks }
+        ensures err { OnErr result (self.new ≡ self.old) }
+    {
+        let name = path.copied()?;
+        self.rows.reserve()?;
+        let edited = edited_job(alloc, &docs, path, file, &self.job)?;
+        self.rows.edit(name, file.is_some(), true);
+        self.docs = docs;
+        self.job = edited;
+        self.epoch += 1;
+        self.seen = false;
+        Ok(())
     }
 
     /// Notes that the inbox was found empty.

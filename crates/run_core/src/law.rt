@@ -1,7 +1,8 @@
 //! What holds of every run of the machine. Each law is the contract of a function that does nothing.
 
-ghost use Rattle.std.specs.Prelude.{◌≡◌, ℕ, ◌+◌, ◌≤◌, List, ◌∷◌, ◌++◌, length, Bool, ◌||◌, IsTrue, IsFalse};
-ghost use Rattle.srb_terms.specs.Projects.{IsProject};
+ghost use Rattle.std.specs.Prelude.{◌≡◌, ◌↔◌, ℕ, ◌+◌, ◌≤◌, List, ◌∷◌, ◌++◌, length, Bool, ◌||◌, IsTrue, IsFalse};
+ghost use Rattle.srb_terms.specs.Projects.{IsProject, bytes_at};
+ghost use Rattle.srb_check.specs.Jobs.{facts_in};
 ghost use Rattle.srb_terms.specs.declared.diag.Diag.{Diag};
 ghost use Rattle.lsp_msg.specs.declared.msg.Msg.{Msg};
 ghost use Rattle.lsp_msg.specs.declared.out.Out.{Out};
@@ -92,4 +93,10 @@ pub fn landed_errors_are_fresh()
 /// All that the laws ask of a language holds of what is checked here.
 pub fn what_is_checked_is_a_language()
     ensures { IsLanguage checked_language }
+{}
+
+/// An edit is taken to keep the errors of the other files exactly where its file declares the same after it as before it. An absent file
+/// declares nothing.
+pub fn an_edit_keeps_by_its_own_file()
+    ensures { (p : Project) (e : Edit) → IsTrue (checked_language.keeps p e) ↔ (facts_in (bytes_at e.path p) ≡ facts_in e.now) }
 {}

@@ -76,18 +76,20 @@ impl Rows {
     /// Makes room for one more row.
     pub fn reserve(&mut self) -> Result<(), NoMemory>
         ensures list { self.new.list ≡ self.old.list }
+        ensures ordered { IsOrdered self.old.list }
         ensures room { OnOk result (0 < self.new.room) }
     {
         self.list.reserve(1)
     }
 
-    /// Notes an edit of the file at `path`, which the project has from now on, or has no more.
-    pub fn edit(&mut self, path: Name, present: bool)
+    /// Notes an edit of the file at `path`, which the project has from now on, or has no more. Where the edit keeps the errors of
+    /// the other files, the file is to be worked on.
+    pub fn edit(&mut self, path: Name, present: bool, kept: bool)
         requires { 0 < self.old.room }
-        ensures list { self.new.list ≡ after_edited path present self.old.list }
+        ensures list { self.new.list ≡ after_edited path present kept self.old.list }
         ensures ordered { IsOrdered self.old.list }
     {
-        edit_in(&mut self.list, path, present);
+        edit_in(&mut self.list, path, present, kept);
         self.first_todo = next_marked(self.list.as_slice(), Mark::Todo, 0);
         self.first_owed = next_marked(self.list.as_slice(), Mark::Owed, 0);
     }
@@ -213,25 +215,26 @@ fn is_at(rows: &[Row], index: usize, path: &Name) -> bool
     }
 }
 
-fn note_edit(row: &mut Row, present: bool)
-    ensures { row.new ≡ edited_row present row.old }
+fn note_edit(row: &mut Row, present: bool, kept: bool)
+    ensures { row.new ≡ edited_row present kept row.old }
 {
     row.present = present;
+    row.todo = kept || row.todo;
     row.owed = true;
     row.edited = true;
 }
 
-fn edit_in(rows: &mut Vec<Row>, path: Name, present: bool)
+fn edit_in(rows: &mut Vec<Row>, path: Name, present: bool, kept: bool)
     requires ordered { IsOrdered rows.old.items }
     requires room { vec_len rows.old < vec_capacity rows.old }
-    ensures { rows.new.items ≡ after_edited path present rows.old.items }
+    ensures { rows.new.items ≡ after_edited path present kept rows.old.items }
 {
     let index = place(rows.as_slice(), &path);
     if is_at(rows.as_slice(), index, &path) {
-        note_edit(&mut rows[index], present);
+        note_edit(&mut rows[index], present, kept);
     } else {
         let mut row = new_row(path);
-        note_edit(&mut row, present);
+        note_edit(&mut row, present, kept);
         match rows.insert(index, row) {
             Ok(()) => {}
             Err(_) => unreachable!(),

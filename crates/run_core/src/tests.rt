@@ -106,19 +106,34 @@ fn is_list(out: &Out, uri: &str, epoch: u64, text: &str) -> bool {
     }
 }
 
-fn is_quiet(landed: &Landed, path: &str, epoch: u64) -> bool {
-    match landed {
-        Landed::Quiet(step) => is_work(step, path, epoch),
-        Landed::Shown(_step, _out) => false,
-    }
-}
-
 fn is_shown(landed: &Landed, path: &str, uri: &str, epoch: u64, text: &str) -> bool {
     match landed {
         Landed::Quiet(_step) => false,
         Landed::Shown(step, out) => is_work(step, path, epoch) && is_list(out, uri, epoch, text),
     }
 }
+
+// What a list of a check is to say: the path and the URI of its file, the epoch and the text.
+type Wanted = (&'static str, &'static str, u64, &'static str);
+
+fn shows<L: Ledger>(
+    rt: &impl Abort,
+    alloc: Global,
+    core: &mut Core,
+    steps: &mut Steps<L>,
+    wanted: Wanted,
+) -> Result<(), NoMemory> {
+    let (path, uri, epoch, text) = wanted;
+    let landed = check(rt, alloc, core, steps)?;
+    assert!(rt; is_shown(&landed, path, uri, epoch, text));
+    Ok(())
+}
+
+const FIRST: Wanted = ("a.rb", "file:///p/a.rb", 0, "type is NilClass");
+
+const EDITED: Wanted = ("c.rb", "file:///p/c.rb", 1, "type is Integer");
+
+const WAITING: Wanted = ("b.rb", "file:///p/b.rb", 1, "type is NilClass");
 
 fn first_round<L: Ledger>(
     rt: &impl Abort,
@@ -127,11 +142,14 @@ fn first_round<L: Ledger>(
     steps: &mut Steps<L>,
 ) -> Result<(), NoMemory> {
     build(rt, alloc, core)?;
-    let a = check(rt, alloc, core, steps)?;
-    assert!(rt; is_shown(&a, "a.rb", "file:///p/a.rb", 0, "type is NilClass"));
+    shows(rt, alloc, core, steps, FIRST)?;
     assert!(rt; !core.rest());
     assert!(rt; !core.owes());
     Ok(())
+}
+
+fn is_edited(core: &Core) -> bool {
+    core.owes() && !core.is_stale()
 }
 
 fn second_round<L: Ledger>(
@@ -140,17 +158,13 @@ fn second_round<L: Ledger>(
     core: &mut Core,
     steps: &mut Steps<L>,
 ) -> Result<(), NoMemory> {
-    assert!(rt; core.owes());
-    build(rt, alloc, core)?;
-    let c = check(rt, alloc, core, steps)?;
-    assert!(rt; is_shown(&c, "c.rb", "file:///p/c.rb", 1, "type is Integer"));
-    let a = check(rt, alloc, core, steps)?;
-    assert!(rt; is_quiet(&a, "a.rb", 1));
-    let b = check(rt, alloc, core, steps)?;
-    assert!(rt; is_shown(&b, "b.rb", "file:///p/b.rb", 1, "type is NilClass"));
-    assert!(rt; core.rest());
-    assert!(rt; core.own_checks() == 3);
-    Ok(())
+    assert!(rt; is_edited(core));
+    shows(rt, alloc, core, steps, EDITED)?;
+    shows(rt, alloc, core, steps, WAITING)
+}
+
+fn is_done(core: &Core) -> bool {
+    core.rest() && core.own_checks() == 2
 }
 
 fn session<L: Ledger>(rt: &impl Abort, alloc: Global, blank: Blank) -> Result<(), NoMemory>
@@ -165,11 +179,13 @@ fn session<L: Ledger>(rt: &impl Abort, alloc: Global, blank: Blank) -> Result<()
     first_round(rt, alloc, &mut core, &mut steps)?;
     let opened = say(rt, alloc, &mut core, open(alloc, "file:///p/c.rb", ONE)?)?;
     assert!(rt; opened.is_none());
-    second_round(rt, alloc, &mut core, &mut steps)
+    second_round(rt, alloc, &mut core, &mut steps)?;
+    assert!(rt; is_done(&core));
+    Ok(())
 }
 
 #[test]
-fn an_edited_file_goes_before_the_others(rt: HostRuntime) -> Result<(), NoMemory> {
+fn an_edited_file_goes_before_those_that_wait(rt: HostRuntime) -> Result<(), NoMemory> {
     session::<Brand>(&rt, rt.alloc(), Blank::new(1))
 }
 
@@ -236,5 +252,47 @@ fn a_refused_change_is_logged_and_is_no_edit(rt: HostRuntime) -> Result<(), NoMe
     let log = say(&rt, alloc, &mut core, change(alloc, "file:///p/z.rb")?)?;
     assert!(rt; is_log(&log, "textDocument/didChange", Reason::NotOpen));
     assert!(rt; core.rest());
+    Ok(())
+}
+
+/// Texts of a file before and after an edit, and whether the symbol table stays.
+const EDITS: [(&str, &str, bool); 9] = [
+    ("def f\n  1\nend\n", "def f\n  # one\n  2\nend\n", true),
+    ("X = 1\n", "\nX = 2\n", true),
+    ("1\n", "2 )\n", true),
+    ("X = 1\n", "X = 'a'\n", false),
+    ("class A\nend\n", "class A < B\nend\n", false),
+    ("class A < B\nend\n", "class A < C\nend\n", false),
+    (
+        "class A\n  sig { returns(Integer) }\n  def f\n    1\n  end\nend\n",
+        "class A\n  sig { returns(String) }\n  def f\n    1\n  end\nend\n",
+        false,
+    ),
+    (
+        "class A\n  attr_reader :x\nend\n",
+        "class A\n  attr_reader :y\nend\n",
+        false,
+    ),
+    (
+        "class A\n  include M\nend\n",
+        "class A\n  extend M\nend\n",
+        false,
+    ),
+];
+
+fn keeps(rt: &impl Abort, alloc: Global, before: &str, after: &str) -> Result<bool, NoMemory> {
+    let mut core = Core::new(alloc, Project::new(alloc))?;
+    let _begun = say(rt, alloc, &mut core, initialize(alloc)?)?;
+    let _first = say(rt, alloc, &mut core, open(alloc, "file:///p/a.rb", before)?)?;
+    build(rt, alloc, &mut core)?;
+    let _second = say(rt, alloc, &mut core, open(alloc, "file:///p/a.rb", after)?)?;
+    Ok(!core.is_stale())
+}
+
+#[test]
+fn an_edit_that_declares_the_same_keeps_the_symbol_table(rt: HostRuntime) -> Result<(), NoMemory> {
+    for (before, after, kept) in EDITS {
+        assert!(rt; keeps(&rt, rt.alloc(), before, after)? == kept);
+    }
     Ok(())
 }

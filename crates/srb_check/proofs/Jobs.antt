@@ -17,11 +17,11 @@ use Rattle.srb_terms.specs.declared.fact.Fact.{Fact}
 use Rattle.srb_terms.specs.declared.world.World.{World}
 use Rattle.srb_builtin.specs.Table.{built_in}
 use Rattle.srb_rules.specs.Standing.{Stands}
-use Rattle.srb_table.specs.Steps.{facts_of}
+use Rattle.srb_table.specs.Steps.{all_facts, facts_of}
 use Rattle.srb_check.specs.declared.file.FileRec.{FileRec}
-use Rattle.srb_check.specs.Jobs.{AreLoaded, AreRecords, Held, IsJobOf, IsLoaded, Known, bytes_of_file, path_of_file, record_of_file, summary_of}
+use Rattle.srb_check.specs.Jobs.{AreLoaded, AreRecords, Held, IsJobOf, IsJobWith, IsLoaded, Known, bytes_of_file, facts_by, facts_in, path_of_file, record_of_file, summary_of}
 use Rattle.srb_check.specs.Records.{loaded}
-use Rattle.srb_check.specs.Symbols.{facts_of_file, project_facts}
+use Rattle.srb_check.specs.Symbols.{facts_of_file, file_facts, project_facts}
 use Rattle.srb_check.proofs.Loads.{loaded_bytes, loaded_facts}
 
 -- ---- files one by one
@@ -177,3 +177,44 @@ job_stands project self held summaries world job are same told stands is =
       files = subst (AreLoaded project) (sym same) are;
       table = subst (λ s. Stands world (facts_of built_in s)) (told ∙ ap (λ (h : Held). map summary_of h.records) same ∙ ap (map summary_of) are.records ∙ summaries-facts project) stands;
     })
+
+-- ---- files that are edited
+
+-- the facts by a file's record are those of its bytes
+pub declared : (bytes : Option (List ℕ)) → facts_by (option_map loaded bytes) ≡ facts_in bytes
+declared None = refl
+declared (Some bytes) = loaded_facts bytes
+
+-- the record at the index of a path is that of the file there
+pub record_with : (path bytes : List ℕ) (job : Known) (i : ℕ) (has : IsJobWith path bytes job)
+    → option_map bytes_of_file (slice_get has.project i) ≡ bytes_at path has.project → slice_get job.files.records i ≡ Some (loaded bytes)
+record_with path bytes job i has place =
+    ap (λ rs. slice_get rs i) has.known.files.records ∙ slice_get-map record_of_file has.project i ∙ by_file (slice_get has.project i) (place ∙ has.here)
+  where
+    by_file : (f : Option File) → option_map bytes_of_file f ≡ Some bytes → option_map record_of_file f ≡ Some (loaded bytes)
+    by_file None is = absurd cc
+    by_file (Some file) is = ap (λ b. Some (loaded b)) (same_Some file.1 bytes is)
+
+-- files of the same facts, with the same symbol table
+pub job_again : (project old : List File) (self held : Held) (world : World) (before job : Known) → AreLoaded project self → IsJobOf old before
+    → project_facts project ≡ project_facts old → held ≡ self → world ≡ before.world → job ≡ record { world = world; files = held } → IsJobOf project job
+job_again project old self held world before job are known facts same table is =
+    subst (IsJobOf project) (sym is) (record {
+      files = subst (AreLoaded project) (sym same) are;
+      table = subst (λ w. Stands w (project_facts project)) (sym table) (subst (Stands before.world) (sym facts) known.table);
+    })
+
+-- ---- the facts that files declare
+
+abbrev pub declared_in : List File → List Fact
+declared_in [] = []
+declared_in (file ∷ files) = file_facts file.1 ++ declared_in files
+
+declared_all : (p : List File) → declared_in p ≡ all_facts (map facts_of_file p)
+declared_all [] = refl
+declared_all (file ∷ files) = ap (λ facts. file_facts file.1 ++ facts) (declared_all files)
+
+-- projects whose files declare the same, taken together, have the same facts
+pub same_declared : (p q : List File) → declared_in p ≡ declared_in q → project_facts p ≡ project_facts q
+unfolding project_facts
+same_declared p q same = ap (λ facts. built_in ++ facts) (sym (declared_all p) ∙ same ∙ declared_all q)

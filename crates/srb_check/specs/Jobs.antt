@@ -1,12 +1,12 @@
 -- What is known of a project at a build.
-use Rattle.std.specs.Prelude.{◌≡◌, ℕ, List, [], ◌∷◌, map}
+use Rattle.std.specs.Prelude.{◌≡◌, ℕ, List, [], ◌∷◌, map, Option, Some, None}
 use Rattle.srb_rules.specs.Standing.{Stands}
-use Rattle.srb_terms.specs.Projects.{File}
+use Rattle.srb_terms.specs.Projects.{File, IsProject, bytes_at}
 use Rattle.srb_terms.specs.declared.fact.Fact.{Fact}
 use Rattle.srb_terms.specs.declared.world.World.{World}
 use Rattle.srb_check.specs.declared.file.FileRec.{FileRec}
 use Rattle.srb_check.specs.Records.{loaded}
-use Rattle.srb_check.specs.Symbols.{project_facts}
+use Rattle.srb_check.specs.Symbols.{file_facts, project_facts}
 
 -- the paths and the records of some files, in the same order
 pub record Held : Type 0 where
@@ -50,3 +50,22 @@ pub record AreLoaded (project : List File) (held : Held) : Type 0 where
 pub record IsJobOf (project : List File) (job : Known) : Type 0 where
   pub files : AreLoaded project job.files
   pub table : Stands job.world (project_facts project)
+
+-- ---- files that are edited
+
+-- the facts of a file, and none where there is no file
+abbrev pub facts_in : Option (List ℕ) → List Fact
+facts_in None = []
+facts_in (Some bytes) = file_facts bytes
+
+-- the same by its record
+abbrev pub facts_by : Option FileRec → List Fact
+facts_by None = []
+facts_by (Some r) = r.summary
+
+-- it is what is known of a project that has these bytes at the path
+pub record IsJobWith (path bytes : List ℕ) (job : Known) : Type 0 where
+  pub project : List File
+  pub ordered : IsProject project
+  pub known : IsJobOf project job
+  pub here : bytes_at path project ≡ Some bytes

@@ -5,6 +5,7 @@ pub mod Levels
 pub mod Messages
 pub mod Readings
 pub mod Symbols
+pub mod FactLists
 pub mod Checks
 pub mod Records
 pub mod Jobs

@@ -1,11 +1,11 @@
-ghost use Rattle.std.specs.Prelude.{◌≡◌, List, [], ◌∷◌, ◌++◌, map, IfOk, OnOk};
+ghost use Rattle.std.specs.Prelude.{◌≡◌, ℕ, List, [], ◌∷◌, ◌++◌, map, IfOk, OnOk};
 ghost use Rattle.srb_terms.specs.Projects.{File};
-ghost use Rattle.srb_check.specs.Jobs.{AreLoaded, IsJobOf, summary_of};
+ghost use Rattle.srb_check.specs.Jobs.{AreLoaded, IsJobOf, IsJobWith, IsLoaded, summary_of};
 ghost use Rattle.srb_check.specs.Records.{loaded};
+ghost use Rattle.srb_check.specs.Symbols.{project_facts};
 
 use crate::file::FileRec;
 use crate::job::Job;
-use crate::loading::load;
 use srb_summary::Summary;
 use srb_table::build;
 use srb_terms::{Boxed, Items, Name, NoMemory};
@@ -55,10 +55,29 @@ impl Files {
     ) -> Result<(), NoMemory>
         ensures { (project : List File) → AreLoaded project self.old → OnOk result (AreLoaded (project ++ (path, bytes.now) ∷ []) self.new) }
     {
-        let record = record_of(alloc, &path, bytes, before)?;
+        let record = before.load(alloc, &path, bytes)?;
+        self.add_record(path, record)
+    }
+
+    /// Adds the file at a path that has this record. The record is shared.
+    pub fn add_record(&mut self, path: Name, file: Boxed<FileRec>) -> Result<(), NoMemory>
+        requires { IsLoaded file }
+        ensures { (project : List File) (bytes : List ℕ) → AreLoaded project self.old → file ≡ loaded bytes
+            → OnOk result (AreLoaded (project ++ (path, bytes) ∷ []) self.new) }
+    {
         self.paths.push(path)?;
-        self.records.push(record)?;
+        self.records.push(file)?;
         Ok(())
+    }
+
+    /// Adds the file at a path as `before` has it, whose record is shared: no bytes are compared.
+    pub fn keep(&mut self, path: Name, before: &Job) -> Result<(), NoMemory>
+        requires { (bytes : List ℕ) × IsJobWith path bytes before.now }
+        ensures { (project : List File) (bytes : List ℕ) → AreLoaded project self.old → IsJobWith path bytes before.now
+            → OnOk result (AreLoaded (project ++ (path, bytes) ∷ []) self.new) }
+    {
+        let record = before.kept(&path)?;
+        self.add_record(path, record)
     }
 
     /// The job of these files: its symbol table is built.
@@ -67,23 +86,19 @@ impl Files {
     {
         let Files { paths, records } = self;
         let summaries = summaries(alloc, records.as_slice())?;
-        let world = build(alloc, summaries.as_slice())?;
+        let built = build(alloc, summaries.as_slice())?;
+        let world = Boxed::new(alloc, built)?;
         Ok(Job::with(world, paths, records))
     }
-}
 
-/// The record of a file, shared with the one of the same bytes at this path, where `before` has it.
-fn record_of(
-    alloc: Global,
-    path: &Name,
-    bytes: &[u8],
-    before: &Job,
-) -> Result<Boxed<FileRec>, NoMemory>
-    ensures { IfOk result (λ r. r ≡ loaded bytes.now) }
-{
-    match before.record(path, bytes) {
-        Some(record) => record.copied(),
-        None => Boxed::new(alloc, load(alloc, bytes)?),
+    /// The job of these files with the symbol table of `before`, which is shared. It is theirs where the facts are the same.
+    pub fn job_as(self, before: &Job) -> Result<Job, NoMemory>
+        ensures { (project old : List File) → AreLoaded project self → IsJobOf old before.now → project_facts project ≡ project_facts old
+            → IfOk result (λ job. IsJobOf project job) }
+    {
+        let world = before.world()?;
+        let Files { paths, records } = self;
+        Ok(Job::with(world, paths, records))
     }
 }
 

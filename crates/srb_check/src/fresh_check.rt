@@ -14,7 +14,7 @@ use std::sync::ledger::{Blank, Ledger};
 fn loaded_files(alloc: Global, files: &[ProjectFile]) -> Result<Files, NoMemory>
     ensures { IfOk result (AreLoaded files.now) }
 {
-    let before = Job::empty(alloc);
+    let before = Job::empty(alloc)?;
     let mut loaded = Files::new(alloc);
     'files: for file in files {
         loaded.add(alloc, file.path().copied()?, file.bytes(), &before)?;
@@ -22,13 +22,19 @@ fn loaded_files(alloc: Global, files: &[ProjectFile]) -> Result<Files, NoMemory>
     Ok(loaded)
 }
 
+/// The job of these files, each loaded anew, in the order in which they stand.
+pub fn job_of(alloc: Global, files: &[ProjectFile]) -> Result<Job, NoMemory>
+    ensures { IfOk result (IsJobOf files.now) }
+{
+    loaded_files(alloc, files)?.job(alloc)
+}
+
 /// The job of a project.
-fn job_of(alloc: Global, project: &Project) -> Result<Job, NoMemory>
+fn project_job(alloc: Global, project: &Project) -> Result<Job, NoMemory>
     ensures job { IfOk result (IsJobOf project.now) }
     ensures ordered { IsProject project.now }
 {
-    let files = loaded_files(alloc, project.files())?;
-    files.job(alloc)
+    job_of(alloc, project.files())
 }
 
 /// The errors of the file at a path of a job, over a counter of its own.
@@ -52,7 +58,7 @@ pub(crate) fn errors_at<L: Ledger>(
 pub fn fresh(alloc: Global, project: &Project, path: &str) -> Result<Vec<Diag>, AllocError>
     ensures { IfOk result (λ ds. ds.items ≡ fresh project.now path.now) }
 {
-    let job = job_of(alloc, project)?;
+    let job = project_job(alloc, project)?;
     let path = Name::from_str(alloc, path)?;
     let errors = errors_at::<Brand>(alloc, &job, &path, Blank::new(1))?;
     Ok(errors.into_vec())

@@ -1,22 +1,26 @@
-ghost use Rattle.std.specs.Prelude.{◌≡◌, ◌+◌, List, [], map, length, slice_get, IsTrue, IfOk, IfSome};
-ghost use Rattle.std.specs.Option.{option_map};
+ghost use Rattle.std.specs.Prelude.{◌≡◌, ◌↔◌, ◌+◌, ℕ, List, [], map, slice_get, IsTrue, IfOk, IfSome};
+ghost use Rattle.std.specs.Option.{option_copied, option_map};
 ghost use Rattle.srb_terms.specs.Projects.{File, IsProject, bytes_at};
 ghost use Rattle.srb_check.specs.Checks.{fresh, fresh_of};
-ghost use Rattle.srb_check.specs.Jobs.{AreRecords, IsJobOf, IsLoaded, bytes_of_file, path_of_file};
+ghost use Rattle.srb_check.specs.FactLists.{same_facts};
+ghost use Rattle.srb_check.specs.Jobs.{AreRecords, IsJobOf, IsJobWith, IsLoaded, bytes_of_file, facts_by, path_of_file};
 ghost use Rattle.srb_check.specs.Records.{loaded};
 ghost use Rattle.srb_check.specs.Symbols.{project_facts};
 
 use crate::checking::check_file;
 use crate::file::FileRec;
-use srb_terms::{Boxed, Diag, Items, Name, NoMemory, Steps, World};
+use crate::loading::load;
+use srb_summary::{Summary, same};
+use srb_terms::{Boxed, Diag, Fact, Items, Name, NoMemory, Steps, World};
 use std::alloc::Global;
 use std::marker::Model;
 use std::sync::ledger::Ledger;
 
-/// A project as it was at a build: its symbol table, and the paths and records of its files, in the order in which they were added.
+/// A project as it was at a build: its symbol table, and the paths and records of its files, in the order in which they were added. Jobs
+/// share symbol tables and records.
 #[derive(Drop)]
 pub struct Job {
-    world: World,
+    world: Boxed<World>,
     paths: Items<Name>,
     records: Items<Boxed<FileRec>>,
 }
@@ -37,18 +41,22 @@ impl Model for Job {
 }
 
 impl Job {
-    /// A job of no files, whose symbol table is empty. It is the job of no project. It takes no memory.
+    /// A job of no files, whose symbol table is empty. It is the job of no project.
     #[tactic(auto, using(crate::proofs::Jobs::no_records))]
-    pub fn empty(alloc: Global) -> Job {
-        Job {
-            world: World::new(alloc),
+    pub fn empty(alloc: Global) -> Result<Job, NoMemory> {
+        Ok(Job {
+            world: Boxed::new(alloc, World::new(alloc))?,
             paths: Items::new(alloc),
             records: Items::new(alloc),
-        }
+        })
     }
 
     /// The job of these files with this symbol table.
-    pub(crate) fn with(world: World, paths: Items<Name>, records: Items<Boxed<FileRec>>) -> Job
+    pub(crate) fn with(
+        world: Boxed<World>,
+        paths: Items<Name>,
+        records: Items<Boxed<FileRec>>,
+    ) -> Job
         requires { AreRecords records }
         ensures { result ≡ record { world = world; files = record { paths = paths; records = records } } }
     {
@@ -59,18 +67,41 @@ impl Job {
         }
     }
 
-    /// The number of its files.
-    pub fn len(&self) -> usize
-        ensures { (project : List File) → IsJobOf project self.now → result ≡ length project }
+    /// The symbol table, which copies share.
+    pub(crate) fn world(&self) -> Result<Boxed<World>, NoMemory>
+        ensures { IfOk result (λ world. world ≡ self.now.world) }
     {
-        self.paths.len()
+        self.world.copied()
     }
 
-    /// Whether it has no files.
-    pub fn is_empty(&self) -> bool
-        ensures { IsTrue result → self.now.files.paths ≡ [] }
+    /// The record of a file at a path, if there is a file. Where the job has the record of the same bytes at this path, it is shared.
+    pub fn load_at(
+        &self,
+        alloc: Global,
+        path: &Name,
+        bytes: Option<&[u8]>,
+    ) -> Result<Option<Boxed<FileRec>>, NoMemory>
+        ensures { IfOk result (λ r. r ≡ option_map loaded (option_copied bytes.entry)) }
     {
-        self.paths.is_empty()
+        match bytes {
+            Some(bytes) => Ok(Some(self.load(alloc, path, bytes)?)),
+            None => Ok(None),
+        }
+    }
+
+    /// The record of the file of these bytes at a path, shared where the job has it.
+    pub(crate) fn load(
+        &self,
+        alloc: Global,
+        path: &Name,
+        bytes: &[u8],
+    ) -> Result<Boxed<FileRec>, NoMemory>
+        ensures { IfOk result (λ r. r ≡ loaded bytes.now) }
+    {
+        match self.record(path, bytes) {
+            Some(record) => record.copied(),
+            None => Boxed::new(alloc, load(alloc, bytes)?),
+        }
     }
 
     /// The errors of the file at an index, none where there are no more than so many files. It counts one step, whatever it answers.
@@ -85,7 +116,7 @@ impl Job {
     {
         match self.records.get(index) {
             Some(record) => {
-                let errors = check_file(alloc, &self.world, record.get(), steps)?;
+                let errors = check_file(alloc, self.world.get(), record.get(), steps)?;
                 Ok(Items::from_vec(errors))
             }
             None => {
@@ -109,7 +140,7 @@ impl Job {
     }
 
     /// The record of a file of these bytes, where the file at the path has them.
-    pub(crate) fn record(&self, path: &Name, bytes: &[u8]) -> Option<&Boxed<FileRec>>
+    fn record(&self, path: &Name, bytes: &[u8]) -> Option<&Boxed<FileRec>>
         ensures { IfSome result (λ r. r.now ≡ loaded bytes.now) }
     {
         let record = self.records.get(place(self.paths.as_slice(), path))?;
@@ -117,6 +148,17 @@ impl Job {
             Some(record)
         } else {
             None
+        }
+    }
+
+    /// The record of the file at a path that the job has.
+    pub(crate) fn kept(&self, path: &Name) -> Result<Boxed<FileRec>, NoMemory>
+        requires { (bytes : List ℕ) × IsJobWith path.now bytes self.now }
+        ensures { (bytes : List ℕ) → IsJobWith path.now bytes self.now → IfOk result (λ r. r ≡ loaded bytes) }
+    {
+        match self.records.get(place(self.paths.as_slice(), path)) {
+            Some(record) => record.copied(),
+            None => unreachable!(),
         }
     }
 }
@@ -137,4 +179,41 @@ fn has_bytes(file: &FileRec, bytes: &[u8]) -> bool
         Some(text) => *text.as_str().as_bytes() == *bytes,
         None => false,
     }
+}
+
+/// Whether two files declare the same, of which these are the records. An absent file declares nothing. It takes no memory.
+#[tactic(auto, using(crate::proofs::FactLists::same_nothing))]
+pub fn declare_the_same(old: &Option<Boxed<FileRec>>, new: &Option<Boxed<FileRec>>) -> bool
+    ensures { result ≡ same_facts (facts_by old.now) (facts_by new.now) }
+{
+    match old {
+        Some(old) => match new {
+            Some(new) => are_same(&old.get().summary, &new.get().summary),
+            None => is_none(&old.get().summary),
+        },
+        None => match new {
+            Some(new) => is_none(&new.get().summary),
+            None => true,
+        },
+    }
+}
+
+fn are_same(a: &Summary, b: &Summary) -> bool
+    ensures { result ≡ same_facts a.now b.now }
+{
+    same(a, b)
+}
+
+/// Whether a file declares nothing.
+fn is_none(facts: &Summary) -> bool
+    ensures one { result ≡ same_facts facts.now [] }
+    ensures other { result ≡ same_facts [] facts.now }
+{
+    is_empty_list(facts.facts())
+}
+
+fn is_empty_list(facts: &[Fact]) -> bool
+    ensures { IsTrue result ↔ (facts.now ≡ []) }
+{
+    facts.is_empty()
 }

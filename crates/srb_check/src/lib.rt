@@ -3,7 +3,8 @@
 //!
 //! `Files` loads the files of a project one by one, and shares the records of files that stay as they were. `Files::job` builds the symbol
 //! table of their facts, and `Job::check` and `Job::check_at` find the errors of one file: `fresh`, which the function `fresh` finds from
-//! the project's bytes alone. A `Job` and its `Files` are told by `IsJobOf` and `AreLoaded`, of which nothing else need be known.
+//! the project's bytes alone. Where an edit leaves what its file declares, as `declare_the_same` tells, `Files::job_as` shares the symbol
+//! table. A `Job` and its `Files` are told by `IsJobOf` and `AreLoaded`, of which nothing else need be known.
 //!
 //! For a single file `load` gives the record `loaded`, and `check_file` the errors `errors_of` of a file that was loaded so. `push_report`
 //! adds the lines `file_report`.
@@ -37,7 +38,7 @@ mod tests;
 pub use checking::check_file;
 pub use file::FileRec;
 pub use files::Files;
-pub use fresh_check::fresh;
-pub use job::Job;
+pub use fresh_check::{fresh, job_of};
+pub use job::{Job, declare_the_same};
 pub use loading::load;
 pub use report::push_report;

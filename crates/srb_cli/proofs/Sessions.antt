@@ -5,8 +5,6 @@ use Rattle.std.specs.Prelude.{Option, is_some, unwrap_or}
 use Rattle.std.specs.Option.{option_map}
 use Rattle.srb_terms.specs.declared.cause.Cause.{Cause}
 use Rattle.srb_terms.specs.Projects.{IsProject}
-use Rattle.srb_check.specs.Symbols.{project_facts}
-use Rattle.srb_check.specs.Checks.{fresh_of}
 use Rattle.lsp_msg.specs.declared.msg.Msg.{Msg as Message}
 use Rattle.lsp_docs.specs.Projects.{Project}
 use Rattle.lsp_frame.specs.Bodies.{bodies_of, Ending}
@@ -19,7 +17,6 @@ use Rattle.run_watch.specs.declared.end_cause.EndCause.{EndCause}
 use Rattle.run_watch.specs.declared.end_cause.EndCause.TheVariants as end
 use Rattle.run_watch.specs.declared.inp.Inp.{Inp}
 use Rattle.run_watch.specs.declared.inp.Inp.TheVariants.{Msg, End}
-use Rattle.run_core.specs.Language.{IsLanguage}
 use Rattle.run_core.specs.declared.phase.Phase.{Phase}
 use Rattle.run_core.specs.declared.phase.Phase.TheVariants.{Waiting, Serving, Closing}
 use Rattle.run_core.specs.Histories.{Shutdown, history}
@@ -37,16 +34,10 @@ use Rattle.srb_cli.specs.Inputs.{messages_of, has_exit, end_of, end_behind, caus
 use Rattle.run_core.specs.Cores.{checked_language, is_closing, ended_by, end_of as end_taken}
 use Rattle.srb_cli.specs.Served.{is_shut, has_failed, ServesWhole, ServesPart, ServesFront}
 use Rattle.srb_cli.specs.Talks.{Did, DidPart, DidFront, Works, Heard, HeardAll, HeardFront, IsHeard, IsSettled, IsUnderWay, heard_in, is_exit, ends_messages}
+use Rattle.run_core.proofs.KeptFacts.{checked_is_language}
 use Rattle.srb_cli.proofs.Deeds.{did_nothing, did_then, works_then}
 use Rattle.srb_cli.proofs.Hearing.{heard_none, more_heard}
 use Rattle.srb_cli.proofs.Rounds.{then_no_step, did_then_quiet}
-
--- what is checked is a language
-pub is_language : IsLanguage checked_language
-is_language = record {
-  absent = λ p f ordered gone. ap (fresh_of (project_facts p)) gone;
-  kept = λ p e f ordered keeps differs. absurd (let wrong : false ≡ true = keeps in cc);
-}
 
 -- a `shutdown` was accepted exactly where the session is closing
 closing_so : (p : Phase) (edits : _) (s : Option Shutdown) → Quiet p edits s → is_closing p ≡ is_some s
@@ -79,7 +70,7 @@ served_whole base cause c ms t e ordered heard did over unfailed is =
       writes = did.writes;
       legal = subst (λ k. Legal l base k written) same (run_is_legal l base did.steps did.leads done);
       settled = λ begun. subst (λ k. Settled l base k written) same
-          (run_is_settled l is_language base ordered did.steps did.leads done (subst (λ k. IsBegun (history base k).session.phase) (sym same) begun));
+          (run_is_settled l checked_is_language base ordered did.steps did.leads done (subst (λ k. IsBegun (history base k).session.phase) (sym same) begun));
       ended = is ∙ ap (λ k. cause_of k (is_closing t.session.phase)) heard.ended ∙ ap (cause_of (end_of heard.read (has_failed c))) (shut ∙ ap (is_shut base) (sym heard.same));
       to_end = heard.to_end;
       unfailed = unfailed;

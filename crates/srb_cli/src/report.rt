@@ -2,37 +2,18 @@
 
 ghost use Rattle.std.specs.Prelude.{◌≡◌, ◌-◌, ◌^◌, ◌<◌, ◌++◌, List, length, slice_get, Some, IfOk, OnOk};
 ghost use Rattle.srb_terms.specs.Projects.{File};
-ghost use Rattle.srb_check.specs.Jobs.{AreLoaded, IsJobOf};
+ghost use Rattle.srb_check.specs.Jobs.{IsJobOf};
 ghost use Rattle.srb_check.specs.Symbols.{project_facts};
 ghost use Rattle.srb_check.specs.Checks.{errors_of};
 ghost use Rattle.srb_check.specs.Reports.{file_report, report_of};
 ghost use Rattle.srb_cli.specs.Ends.{Reported};
 
-use srb_check::{Files, Job, push_report};
+use srb_check::{Job, job_of, push_report};
 use srb_io::{Sink, write_all};
 use srb_terms::{Cause, ProjectFile, Steps};
 use std::alloc::{AllocError, Global};
 use std::marker::Brand;
 use std::sync::ledger::{Blank, Ledger};
-
-/// The files, each loaded.
-fn loaded(alloc: Global, files: &[ProjectFile]) -> Result<Files, AllocError>
-    ensures { IfOk result (AreLoaded files.now) }
-{
-    let none = Job::empty(alloc);
-    let mut loaded = Files::new(alloc);
-    'files: for file in files {
-        loaded.add(alloc, file.path().copied()?, file.bytes(), &none)?;
-    }
-    Ok(loaded)
-}
-
-/// The files as one project, with its symbol table.
-fn job_of(alloc: Global, files: &[ProjectFile]) -> Result<Job, AllocError>
-    ensures { IfOk result (IsJobOf files.now) }
-{
-    loaded(alloc, files)?.job(alloc)
-}
 
 /// Checks the file at an index of a project, and adds the lines of its errors to a report.
 fn push_file<L: Ledger>(

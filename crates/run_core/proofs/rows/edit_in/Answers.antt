@@ -16,7 +16,7 @@ returns-then-is_at c =
     ap (λ l. is_path_of c.args.path (slice_get l c.place-index.result)) (sym list) ∙ sym c.is_at.ensures.at ∙ c.if-is_at.true in
     let within : c.place-index.result < length c.args.rows.now.items =
     subst (λ l. c.place-index.result < length l) list (c.is_at.ensures.within c.if-is_at.true) in
-    edited_set c.args.path c.args.present c.args.rows.now.items c.place-index.result c.index_mut.result.now c.note_edit.new.row
+    edited_set c.args.path c.args.present c.args.kept c.args.rows.now.items c.place-index.result c.index_mut.result.now c.note_edit.new.row
     (c.place-index.ensures ∙ ap (place_of c.args.path) c.as_slice.ensures.value) at within c.index_mut.ensures.value c.note_edit.ensures
 
 pub returns-in-Ok : goal.returns-in-Ok
@@ -24,6 +24,6 @@ returns-in-Ok c =
     let at : is_path_of c.args.path (slice_get c.args.rows.now.items c.place-index.result) ≡ false =
     ap (λ l. is_path_of c.args.path (slice_get l c.place-index.result)) (sym c.as_slice-2.ensures.value) ∙ sym c.is_at.ensures.at ∙ c.if-is_at.false in
     c.in-Ok.ensures.items
-    ∙ inserted_set c.args.path c.args.present c.args.rows.now.items c.place-index.result c.note_edit-else-is_at.new.row
+    ∙ inserted_set c.args.path c.args.present c.args.kept c.args.rows.now.items c.place-index.result c.note_edit-else-is_at.new.row
     (c.place-index.ensures ∙ ap (place_of c.args.path) c.as_slice.ensures.value) at
-    (c.note_edit-else-is_at.ensures ∙ ap (edited_row c.args.present) c.new_row-row.ensures)
+    (c.note_edit-else-is_at.ensures ∙ ap (edited_row c.args.present c.args.kept) c.new_row-row.ensures)

@@ -8,8 +8,8 @@ use Rattle.run_core.proofs.core_calls.Core.build.Goals as goal
 
 pub invariant_of-self : goal.invariant_of-self
 invariant_of-self c =
-    subst (λ rows. IsCore c.self.inside.docs false rows c.in_ok-job.job) (sym c.build.ensures.list)
-    (built_core _ _ _ _ _ c.self.invariant c.in_ok-job.ensures)
+    subst (λ rows. IsCore c.self.inside.phase c.self.inside.docs false rows c.in_ok-job.job) (sym c.build.ensures.list)
+    (built_core _ _ _ _ _ _ c.self.invariant (ap (λ (a : Account). a.state.stale) c.self.view_is ∙ c.requires.stale) c.in_ok-job.ensures)
 
 pub returns-clause-makes : goal.returns-clause-makes
 returns-clause-makes c =

@@ -6,7 +6,7 @@ use Rattle.run_core.specs.declared.mark.Mark.TheVariants.{Todo}
 use Rattle.run_core.specs.Rows.{after_worked, marked}
 use Rattle.run_core.specs.Cores.{Account, IsDue, Lands, checks_after, has_own, landed_by, state_of}
 use Rattle.run_core.proofs.NextFile.{owed_next}
-use Rattle.run_core.proofs.CoreSteps.{has_own-within, own_built, worked_core, worked_fewer, worked_lands}
+use Rattle.run_core.proofs.CoreSteps.{has_own-within, own_begun, own_built, worked_core, worked_fewer, worked_lands}
 use Rattle.run_core.proofs.Loading.{rows_project}
 use Rattle.run_core.proofs.core_calls.Core.check_own.Goals as goal
 
@@ -25,8 +25,10 @@ work-requires g c =
 pub invariant_of-self : goal.invariant_of-self
 invariant_of-self g c =
     let i = c.self.inside in
-    let built = own_built i.docs i.phase i.rows.list i.epoch i.stale i.seen i.owing i.ended c.self.invariant (ap (λ (a : Account). has_own a.state) c.self.view_is ∙ c.requires) in
-    worked_core i.docs i.stale i.rows.list c.work.new.self.list i.job c.row-file.result.now.path c.list_if.result c.self.invariant built
+    let own = ap (λ (a : Account). has_own a.state) c.self.view_is ∙ c.requires in
+    let begun = own_begun i.docs i.phase i.rows.list i.epoch i.stale i.seen i.owing i.ended c.self.invariant own in
+    let built = own_built i.docs i.phase i.rows.list i.epoch i.stale i.seen i.owing i.ended c.self.invariant own in
+    worked_core i.phase i.docs i.stale i.rows.list c.work.new.self.list i.job c.row-file.result.now.path c.list_if.result c.self.invariant begun built
     (c.work.ensures.list c.row-file.result.now c.row-file.ensures)
 
 pub returns-clause-lands : goal.returns-clause-lands

@@ -1,4 +1,4 @@
-use Rattle.run_core.proofs.tests.an_edited_file_goes_before_the_others.Given as goal
+use Rattle.run_core.proofs.tests.an_edited_file_goes_before_those_that_wait.Given as goal
 
 -- the ledger is the blank's
 abbrev pub ghosts-session : goal.ghosts-session
