@@ -1,5 +1,5 @@
 -- The errors of a file under the facts of its project, found by the tests of a file in their order: its size, its form, its level, its
--- tokens, its tree, and then what its declarations, constants and statements say.
+-- tokens, its tree, and then what its declarations, constants, signatures and statements say.
 use Rattle.std.specs.Prelude.{ℕ, nat_lt, if◌then◌else◌, List, [], ◌∷◌, ◌++◌, length, Option, Some, None}
 use Rattle.std.specs.Str.{chars, is_utf8}
 use Rattle.srb_terms.specs.declared.diag.Diag.{Diag}
@@ -24,7 +24,7 @@ type_errors level tree = if shows_types level then judged (built tree) else []
 -- the errors of a text that is read, by its level: that of its tokens, or those of its tree, in order
 abbrev pub reading_errors : List Fact → Level → Reading → List Diag
 reading_errors facts level (Refused error) = error ∷ []
-reading_errors facts level (Program tree) = arranged (symbol_errors facts tree ++ type_errors level tree)
+reading_errors facts level (Program tree) = arranged (symbol_errors facts level tree ++ type_errors level tree)
 
 -- the errors of a text: none at `ignore`
 abbrev pub text_errors : List Fact → List ℕ → List Diag

@@ -22,3 +22,11 @@ shows_types False = false
 shows_types True = true
 shows_types Strict = true
 shows_types Strong = true
+
+-- whether methods need signatures at a level
+abbrev pub needs_signatures : Level → Bool
+needs_signatures Ignore = false
+needs_signatures False = false
+needs_signatures True = false
+needs_signatures Strict = true
+needs_signatures Strong = true

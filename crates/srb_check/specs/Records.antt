@@ -44,7 +44,7 @@ loaded bytes =
 -- the errors of a tree under these facts, where there is a tree
 abbrev pub tree_errors : List Fact → Level → Option Tree → List Diag
 tree_errors facts level None = []
-tree_errors facts level (Some tree) = arranged (symbol_errors facts tree ++ type_errors level tree)
+tree_errors facts level (Some tree) = arranged (symbol_errors facts level tree ++ type_errors level tree)
 
 abbrev pub errors_by : List Fact → Level → Option Tree → Option Diag → List Diag
 errors_by facts level tree (Some error) = error ∷ []

@@ -1,9 +1,10 @@
--- What a file declares, the facts of a project, and the errors of a program's declarations and constants.
+-- What a file declares, the facts of a project, and the errors of a program's declarations, constants and signatures.
 use Rattle.std.specs.Prelude.{ℕ, nat_lt, if◌then◌else◌, List, [], ◌++◌, length, map, chars}
 use Rattle.std.specs.Str.{is_utf8}
 use Rattle.srb_terms.specs.Projects.{File}
 use Rattle.srb_terms.specs.declared.diag.Diag.{Diag}
 use Rattle.srb_terms.specs.declared.fact.Fact.{Fact}
+use Rattle.srb_terms.specs.declared.level.Level.{Level}
 use Rattle.rb_lex.specs.Levels.{level_of_text}
 use Rattle.rb_tree.specs.declared.syntax.Tree.{Tree}
 use Rattle.srb_builtin.specs.Table.{built_in}
@@ -11,10 +12,11 @@ use Rattle.srb_conflicts.specs.Conflicts.{conflict_errors}
 use Rattle.srb_declarations.specs.Declarations.{declarations_of}
 use Rattle.srb_namer.specs.Facts.{summ_of}
 use Rattle.srb_references.specs.References.{reference_errors, references_of}
+use Rattle.srb_signatures.specs.Errors.{signature_errors}
 use Rattle.srb_table.specs.Steps.{facts_of}
 use Rattle.srb_check.specs.declared.reading.Reading.{Reading}
 use Rattle.srb_check.specs.declared.reading.Reading.TheVariants.{Program, Refused}
-use Rattle.srb_check.specs.Levels.{LARGEST_FILE, hides_all}
+use Rattle.srb_check.specs.Levels.{LARGEST_FILE, hides_all, needs_signatures}
 use Rattle.srb_check.specs.Readings.{read}
 
 -- ---- facts
@@ -43,6 +45,9 @@ project_facts project = facts_of built_in (map facts_of_file project)
 
 -- ---- errors
 
--- the errors of a program's declarations, and of its references to constants that stand for nothing
-abbrev pub symbol_errors : List Fact → Tree → List Diag
-symbol_errors facts tree = conflict_errors facts (declarations_of tree) ++ reference_errors facts (references_of tree)
+-- the errors of a program's declarations, of its references to constants that stand for nothing, and of its signatures, at a level
+abbrev pub symbol_errors : List Fact → Level → Tree → List Diag
+symbol_errors facts level tree =
+    conflict_errors facts (declarations_of tree)
+    ++ reference_errors facts (references_of tree)
+    ++ signature_errors (needs_signatures level) tree

@@ -3,6 +3,7 @@ ghost use Rattle.srb_conflicts.specs.Conflicts.{conflict_errors};
 ghost use Rattle.srb_declarations.specs.Declarations.{declarations_of};
 ghost use Rattle.srb_references.specs.References.{reference_errors, references_of};
 ghost use Rattle.srb_rules.specs.Standing.{Stands};
+ghost use Rattle.srb_signatures.specs.Errors.{signature_errors};
 ghost use Rattle.srb_terms.specs.declared.fact.Fact.{Fact};
 ghost use Rattle.srb_check.specs.Arranged as order;
 ghost use Rattle.srb_check.specs.Checks.{errors_of, type_errors};
@@ -17,6 +18,7 @@ use rb_tree::syntax::Tree;
 use srb_conflicts::conflicts;
 use srb_declarations::declarations;
 use srb_references::{references, unresolved};
+use srb_signatures::signature_errors;
 use srb_terms::{Diag, Items, Level, NoMemory, Steps, World};
 use std::alloc::{AllocError, Global};
 use std::sync::ledger::Ledger;
@@ -28,6 +30,16 @@ fn shows_types(level: Level) -> bool
     match level {
         Level::Ignore | Level::False => false,
         Level::True | Level::Strict | Level::Strong => true,
+    }
+}
+
+/// Whether methods need signatures at a level.
+fn needs_signatures(level: Level) -> bool
+    ensures { result ≡ levels.needs_signatures level }
+{
+    match level {
+        Level::Ignore | Level::False | Level::True => false,
+        Level::Strict | Level::Strong => true,
     }
 }
 
@@ -57,13 +69,32 @@ fn add_unresolved(
     unresolved(alloc, world, referred.as_slice(), found)
 }
 
-/// The errors of a program's declarations and references.
-fn symbol_errors(alloc: Global, world: &World, tree: &Tree) -> Result<Items<Diag>, NoMemory>
-    ensures { (fs : List Fact) → Stands world.now fs → IfOk result (λ ds. ds ≡ symbol_errors fs tree.now) }
+/// Adds the errors of a program's signatures at this level.
+fn add_signature_errors(
+    alloc: Global,
+    level: Level,
+    tree: &Tree,
+    found: &mut Items<Diag>,
+) -> Result<(), NoMemory>
+    ensures { OnOk result (found.new ≡ found.old ++ signature_errors (levels.needs_signatures level) tree.now) }
+{
+    let errors = signature_errors(alloc, needs_signatures(level), tree)?;
+    found.append(errors)
+}
+
+/// The errors of a program's declarations, references and signatures at this level.
+fn symbol_errors(
+    alloc: Global,
+    world: &World,
+    level: Level,
+    tree: &Tree,
+) -> Result<Items<Diag>, NoMemory>
+    ensures { (fs : List Fact) → Stands world.now fs → IfOk result (λ ds. ds ≡ symbol_errors fs level tree.now) }
 {
     let mut found = Items::new(alloc);
     add_conflicts(alloc, world, tree, &mut found)?;
     add_unresolved(alloc, world, tree, &mut found)?;
+    add_signature_errors(alloc, level, tree, &mut found)?;
     Ok(found)
 }
 
@@ -90,9 +121,9 @@ fn program_list(
     level: Level,
     tree: &Tree,
 ) -> Result<Vec<Diag>, NoMemory>
-    ensures { (fs : List Fact) → Stands world.now fs → IfOk result (λ ds. ds.items ≡ order.arranged (symbol_errors fs tree.now ++ type_errors level tree.now)) }
+    ensures { (fs : List Fact) → Stands world.now fs → IfOk result (λ ds. ds.items ≡ order.arranged (symbol_errors fs level tree.now ++ type_errors level tree.now)) }
 {
-    let mut found = symbol_errors(alloc, world, tree)?;
+    let mut found = symbol_errors(alloc, world, level, tree)?;
     add_type_errors(alloc, level, tree, &mut found)?;
     Ok(arranged(found.into_vec()))
 }

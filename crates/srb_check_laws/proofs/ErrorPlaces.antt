@@ -27,7 +27,7 @@ use Rattle.srb_check.specs.declared.reading.Reading.{Reading}
 use Rattle.srb_check.specs.declared.reading.Reading.TheVariants.{Program, Refused}
 use Rattle.srb_check.specs.Built.{built}
 use Rattle.srb_check.specs.Checks.{type_errors, reading_errors, text_errors, errors_of}
-use Rattle.srb_check.specs.Levels.{LARGEST_FILE, hides_all, shows_types}
+use Rattle.srb_check.specs.Levels.{LARGEST_FILE, hides_all, needs_signatures, shows_types}
 use Rattle.srb_check.specs.Symbols.{symbol_errors}
 use Rattle.srb_check.specs.Messages.{class_name, too_large, not_utf8, is_same_class, expression_errors, expressions_errors, judged}
 use Rattle.srb_check_laws.specs.Placed.{IsPlace, AreAtPlaces}
@@ -39,6 +39,8 @@ use Rattle.srb_declarations_laws.proofs.Programs.{programs-declare}
 use Rattle.srb_references.specs.declared.reference.Reference.{Reference}
 use Rattle.srb_references.specs.References.{reference_errors, references_of}
 use Rattle.srb_references_laws.proofs.Programs.{programs-refer}
+use Rattle.srb_signatures.specs.Errors.{signature_errors}
+use Rattle.srb_signatures_laws.proofs.Places.{signatures-stand}
 use Rattle.srb_check_laws.proofs.ArrangedPlaces.{append-at_places, arranged-at_places}
 use Rattle.srb_check_laws.proofs.BuiltPlaces.{IsExpressionAt, built-placed}
 use Rattle.srb_check_laws.proofs.CharacterPlaces.{text-start, character-end}
@@ -55,6 +57,7 @@ abbrev IsReadingIn : List ℕ → Reading → Type 0
 IsReadingIn text (Refused error) = InText text error.span
 IsReadingIn text (Program tree) =
     IfSome (built tree) (AreExpressionsIn text) × Each (λ d. InText text (place_of d)) (declarations_of tree) × Each (λ (r : Reference). InText text r.span) (references_of tree)
+    × ((needed : Bool) → Each (λ (e : Diag). InText text e.span) (signature_errors needed tree))
 
 expression-in : (text : List ℕ) (tokens : List Token) → StandInOrder text 0 tokens → (e : Expression) → IsExpressionAt (IsPlaced tokens) e → IsExpressionAt (InText text) e
 expression-in text tokens stand Plain h = tt
@@ -86,6 +89,7 @@ parsed-in text tokens stand (Ok t) e =
           (built-placed tokens (StandsAt tokens) (λ u h. (trees-stand-by-nodes tokens u).0 h) t (trees-stand-at-tokens tokens t derives)),
       each-in place_of text tokens stand (declarations_of t) (programs-declare tokens t derives),
       each-in (λ (r : Reference). r.span) text tokens stand (references_of t) (programs-refer tokens t derives),
+      (λ needed. each-in (λ (e : Diag). e.span) text tokens stand (signature_errors needed t) (signatures-stand tokens needed t (trees-stand-at-tokens tokens t derives))),
     )
 parsed-in text tokens stand (Err end) e = parse_error-in text tokens stand end
 
@@ -139,11 +143,13 @@ type_errors-places bytes utf8 level tree h = by_level (shows_types level)
 reading_errors-places : (bytes : List ℕ) → IsUtf8 bytes → (facts : List Fact) (level : Level) (reading : Reading) → IsReadingIn (chars bytes) reading → AreAtPlaces bytes (reading_errors facts level reading)
 reading_errors-places bytes utf8 facts level (Refused error) h = let both = place-in bytes utf8 error.span h in (both.0, both.1, both.2, tt)
 reading_errors-places bytes utf8 facts level (Program tree) h =
-    arranged-at_places bytes (symbol_errors facts tree ++ type_errors level tree)
-    (append-at_places bytes (symbol_errors facts tree) (type_errors level tree)
-    (errors-places bytes utf8 (symbol_errors facts tree)
+    arranged-at_places bytes (symbol_errors facts level tree ++ type_errors level tree)
+    (append-at_places bytes (symbol_errors facts level tree) (type_errors level tree)
+    (errors-places bytes utf8 (symbol_errors facts level tree)
+    (errors-append (InText (chars bytes)) (conflict_errors facts (declarations_of tree) ++ reference_errors facts (references_of tree)) (signature_errors (needs_signatures level) tree)
     (errors-append (InText (chars bytes)) (conflict_errors facts (declarations_of tree)) (reference_errors facts (references_of tree))
-    (conflicts-at (InText (chars bytes)) facts (declarations_of tree) h.1) (references-at (InText (chars bytes)) facts (references_of tree) h.2)))
+    (conflicts-at (InText (chars bytes)) facts (declarations_of tree) h.1) (references-at (InText (chars bytes)) facts (references_of tree) h.2))
+    (h.3 (needs_signatures level))))
     (type_errors-places bytes utf8 level tree h.0))
 
 text_errors-places : (bytes : List ℕ) → IsUtf8 bytes → (facts : List Fact) → AreAtPlaces bytes (text_errors facts (chars bytes))

@@ -10,7 +10,7 @@ use srb_text::Text;
 use std::alloc::{AllocError, Global};
 
 /// The facts of a program; none where it can't be read.
-fn facts_of(alloc: Global, text: &str) -> Result<Items<Fact>, AllocError> {
+pub fn facts_of(alloc: Global, text: &str) -> Result<Items<Fact>, AllocError> {
     if text.len() > 10_000 {
         return Ok(Items::new(alloc));
     }

@@ -5,3 +5,7 @@
 mod facts;
 #[cfg(test)]
 mod references;
+#[cfg(test)]
+mod signatures;
+#[cfg(test)]
+mod types;
