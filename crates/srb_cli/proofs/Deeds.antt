@@ -1,24 +1,26 @@
 -- What steps did, one call behind the other.
-use Rattle.std.proofs.Common.{◌≡◌, ℕ, List, [], ◌∷◌, ◌++◌, take, map, None, Result, Ok, Err, refl, sym, ap, ◌∙◌, subst, append_assoc, append-nil}
-use Rattle.std.specs.Prelude.{Option}
+use Rattle.std.proofs.Common.{◌≡◌, inl, inr, ℕ, List, [], ◌∷◌, ◌++◌, take, map, None, Some, Result, Ok, Err, refl, sym, ap, ◌∙◌, subst, append_assoc, append-nil}
+use Rattle.std.specs.Prelude.{Option, MatchResult}
 use Rattle.std.proofs.lemmas.List.{map-append}
 use Rattle.std.proofs.KnownBytes.{Appends-nil, Appends-trans, Appends-kept}
-use Rattle.std.specs.Io.KnownBytes.{Appends}
+use Rattle.std.specs.Io.KnownBytes.{Appends, Keeps}
 use Rattle.srb_io.specs.Counts.{HasRisen}
 use Rattle.lsp_frame.specs.Written.{frame, frames}
 use Rattle.lsp_frame.specs.declared.writing.WriteEnd.{WriteEnd}
 use Rattle.lsp_frame.specs.declared.writing.WriteEnd.TheVariants.{Fault, NoMemory}
 use Rattle.lsp_msg.specs.Written.{body_of}
-use Rattle.lsp_msg.specs.declared.msg.Msg.{Msg as Message}
 use Rattle.lsp_msg.specs.declared.out.Out.{Out}
+use Rattle.run_watch.specs.Told.{with_steps}
+use Rattle.run_watch.specs.declared.inp.Inp.{Inp}
 use Rattle.run_watch.specs.declared.step.Step.{Step}
 use Rattle.run_core.specs.Histories.{listed}
 use Rattle.run_core.specs.Language.{Language}
 use Rattle.run_core.specs.Machine.{State, Permits, next, written}
-use Rattle.run_core.specs.Runs.{Leads, state_after, written_by, message_in, messages_in}
+use Rattle.run_core.specs.Runs.{Leads, state_after, written_by}
 use Rattle.run_core.specs.Cores.{checked_language}
+use Rattle.srb_cli.specs.Recorded.{input_in, inputs_in}
 use Rattle.srb_cli.specs.Served.{written_as}
-use Rattle.srb_cli.specs.Talks.{Did, DidPart, DidFront, Works, Says}
+use Rattle.srb_cli.specs.Talks.{Kept, Did, DidPart, DidFront, Works, Goes, Says, Tells}
 
 -- ---- lists of steps
 
@@ -36,10 +38,23 @@ written_by-append l s (x ∷ xs) ys =
     ap (λ o. listed (written s x) ++ o) (written_by-append l (next l s x) xs ys)
     ∙ sym (append_assoc (listed (written s x)) (written_by l (next l s x) xs) (written_by l (state_after l (next l s x) xs) ys))
 
-messages_in-append : (xs ys : List Step) → messages_in (xs ++ ys) ≡ messages_in xs ++ messages_in ys
-messages_in-append [] ys = refl
-messages_in-append (x ∷ xs) ys =
-    ap (λ o. message_in x ++ o) (messages_in-append xs ys) ∙ sym (append_assoc (message_in x) (messages_in xs) (messages_in ys))
+inputs_in-append : (xs ys : List Step) → inputs_in (xs ++ ys) ≡ inputs_in xs ++ inputs_in ys
+inputs_in-append [] ys = refl
+inputs_in-append (x ∷ xs) ys =
+    ap (λ o. input_in x ++ o) (inputs_in-append xs ys) ∙ sym (append_assoc (input_in x) (inputs_in xs) (inputs_in ys))
+
+-- ---- what a trace tells
+
+gains_none : (t : Option (List Step)) → t ≡ with_steps t []
+gains_none None = refl
+gains_none (Some xs) = ap Some (sym (append-nil xs))
+
+with_steps-twice : (t : Option (List Step)) (xs ys : List Step) → with_steps (with_steps t xs) ys ≡ with_steps t (xs ++ ys)
+with_steps-twice None xs ys = refl
+with_steps-twice (Some zs) xs ys = ap Some (append_assoc zs xs ys)
+
+gains_then : (t t' t'' : Option (List Step)) (xs ys : List Step) → t' ≡ with_steps t xs → t'' ≡ with_steps t' ys → t'' ≡ with_steps t (xs ++ ys)
+gains_then t t' t'' xs ys p q = q ∙ ap (λ k. with_steps k ys) p ∙ with_steps-twice t xs ys
 
 -- ---- frames
 
@@ -52,28 +67,49 @@ written_as-append xs ys = ap frames (map-append body_of xs ys) ∙ frames-append
 
 -- ---- nothing, and one step
 
-pub did_nothing : (s : State) (h : Option (List ℕ)) → Did s [] s h h
-did_nothing s h = record { steps = []; leads = tt; there = refl; took = refl; writes = Appends-nil h }
+pub did_nothing : (s : State) (h : Kept) → Did s [] s h h
+did_nothing s h = record { steps = []; leads = tt; there = refl; took = refl; gains = gains_none h.told; writes = Appends-nil h.held }
 
-pub did_step : (s new : State) (x : Step) (out : Option Out) (h h' : Option (List ℕ)) → Permits checked_language s x
-    → new ≡ next checked_language s x → out ≡ written s x → Appends h h' (written_as (listed out)) → Did s (message_in x) new h h'
-did_step s new x out h h' permitted made is appends = record {
+pub did_step : (s new : State) (x : Step) (out : Option Out) (h h' : Kept) → Permits checked_language s x
+    → new ≡ next checked_language s x → out ≡ written s x → h'.told ≡ with_steps h.told (x ∷ []) → Appends h.held h'.held (written_as (listed out))
+    → Did s (input_in x) new h h'
+did_step s new x out h h' permitted made is told appends = record {
   steps = x ∷ [];
   leads = (permitted, tt);
   there = made;
-  took = append-nil (message_in x);
-  writes = subst (λ o. Appends h h' (written_as o)) (sym (append-nil (listed (written s x)) ∙ ap listed (sym is))) appends;
+  took = append-nil (input_in x);
+  gains = told;
+  writes = subst (λ o. Appends h.held h'.held (written_as o)) (sym (append-nil (listed (written s x)) ∙ ap listed (sym is))) appends;
 }
 
--- a step that writes nothing
-pub did_quietly : (s new : State) (x : Step) (h : Option (List ℕ)) → Permits checked_language s x
-    → new ≡ next checked_language s x → written s x ≡ None → Did s (message_in x) new h h
-did_quietly s new x h permitted made quiet = did_step s new x None h h permitted made (sym quiet) (Appends-nil h)
+-- no step for want of memory
+pub no_step : (s : State) (is : List Inp) (h h' : Kept) → h'.told ≡ h.told → h'.held ≡ h.held → DidFront s is h h'
+no_step s is h h' told held = record {
+  steps = [];
+  later = is;
+  leads = tt;
+  took = refl;
+  gains = told ∙ gains_none h.told;
+  outs = [];
+  rest = [];
+  wrote = refl;
+  writes = subst (λ k. Appends h.held k []) (sym held) (Appends-nil h.held);
+}
+
+-- a step that writes nothing, of which the trace took note or not
+pub goes_quietly : {T E : Type 0} (r : Result T E) (s new : State) (x : Step) (t t' : Option (List Step)) → Permits checked_language s x
+    → new ≡ next checked_language s x → written s x ≡ None → input_in x ≡ [] → MatchResult r (λ _. t' ≡ with_steps t (x ∷ [])) (λ _. t' ≡ t)
+    → Goes r s new t t'
+goes_quietly (Ok done) s new x t t' permitted made quiet none told = λ held.
+    subst (λ k. Did s k new (record { held = held; told = t }) (record { held = held; told = t' })) none
+    (did_step s new x None (record { held = held; told = t }) (record { held = held; told = t' }) permitted made (sym quiet) told (Appends-nil held))
+goes_quietly (Err e) s new x t t' permitted made quiet none told = λ held.
+    no_step s [] (record { held = held; told = t }) (record { held = held; told = t' }) told refl
 
 -- ---- one behind the other
 
-pub did_then : (s t u : State) (ms ns : List Message) (h h' h'' : Option (List ℕ)) → Did s ms t h h' → Did t ns u h' h'' → Did s (ms ++ ns) u h h''
-did_then s t u ms ns h h' h'' d e =
+pub did_then : (s t u : State) (is js : List Inp) (h h' h'' : Kept) → Did s is t h h' → Did t js u h' h'' → Did s (is ++ js) u h h''
+did_then s t u is js h h' h'' d e =
     let at = λ (v : State). Leads checked_language v e.steps in
     let reached : u ≡ state_after checked_language (state_after checked_language s d.steps) e.steps =
     e.there ∙ ap (λ v. state_after checked_language v e.steps) d.there in
@@ -84,8 +120,9 @@ did_then s t u ms ns h h' h'' d e =
       steps = d.steps ++ e.steps;
       leads = Leads-append checked_language s d.steps e.steps d.leads (subst at d.there e.leads);
       there = reached ∙ sym (state_after-append checked_language s d.steps e.steps);
-      took = messages_in-append d.steps e.steps ∙ ap (λ k. k ++ messages_in e.steps) d.took ∙ ap (λ k. ms ++ k) e.took;
-      writes = subst (Appends h h'') (sym wrote) (Appends-trans h h' h'' _ _ d.writes e.writes);
+      took = inputs_in-append d.steps e.steps ∙ ap (λ k. k ++ inputs_in e.steps) d.took ∙ ap (λ k. is ++ k) e.took;
+      gains = gains_then h.told h'.told h''.told d.steps e.steps d.gains e.gains;
+      writes = subst (Appends h.held h''.held) (sym wrote) (Appends-trans h.held h'.held h''.held _ _ d.writes e.writes);
     }
 
 -- what was written of two lists of steps, where the second's stopped at some message
@@ -95,8 +132,8 @@ wrote_then s t xs ys outs rest there wrote =
     written_by-append checked_language s xs ys ∙ ap (λ v. written_by checked_language s xs ++ written_by checked_language v ys) (sym there)
     ∙ ap (λ o. written_by checked_language s xs ++ o) wrote ∙ sym (append_assoc (written_by checked_language s xs) outs rest)
 
-pub did_then_part : (s t : State) (ms ns : List Message) (h h' h'' : Option (List ℕ)) → Did s ms t h h' → DidPart t ns h' h'' → DidPart s (ms ++ ns) h h''
-did_then_part s t ms ns h h' h'' d e =
+pub did_then_part : (s t : State) (is js : List Inp) (h h' h'' : Kept) → Did s is t h h' → DidPart t js h' h'' → DidPart s (is ++ js) h h''
+did_then_part s t is js h h' h'' d e =
     let at = λ (v : State). Leads checked_language v e.steps in
     let cut = take e.part (frame (body_of e.last)) in
     let first = written_by checked_language s d.steps in
@@ -105,56 +142,74 @@ did_then_part s t ms ns h h' h'' d e =
     record {
       steps = d.steps ++ e.steps;
       leads = Leads-append checked_language s d.steps e.steps d.leads (subst at d.there e.leads);
-      took = messages_in-append d.steps e.steps ∙ ap (λ k. k ++ messages_in e.steps) d.took ∙ ap (λ k. ms ++ k) e.took;
+      took = inputs_in-append d.steps e.steps ∙ ap (λ k. k ++ inputs_in e.steps) d.took ∙ ap (λ k. is ++ k) e.took;
+      gains = gains_then h.told h'.told h''.told d.steps e.steps d.gains e.gains;
       outs = first ++ e.outs;
       last = e.last;
       part = e.part;
       wrote = wrote_then s t d.steps e.steps e.outs (e.last ∷ []) d.there e.wrote;
       short = e.short;
-      writes = subst (Appends h h'') bytes (Appends-trans h h' h'' _ _ d.writes e.writes);
+      writes = subst (Appends h.held h''.held) bytes (Appends-trans h.held h'.held h''.held _ _ d.writes e.writes);
     }
 
-pub did_then_front : (s t : State) (ms ns : List Message) (h h' h'' : Option (List ℕ)) → Did s ms t h h' → DidFront t ns h' h'' → DidFront s (ms ++ ns) h h''
-did_then_front s t ms ns h h' h'' d e =
+pub did_then_front : (s t : State) (is js : List Inp) (h h' h'' : Kept) → Did s is t h h' → DidFront t js h' h'' → DidFront s (is ++ js) h h''
+did_then_front s t is js h h' h'' d e =
     let at = λ (v : State). Leads checked_language v e.steps in
     let first = written_by checked_language s d.steps in
-    let heard : ms ++ ns ≡ messages_in (d.steps ++ e.steps) ++ e.later =
-    ap (λ k. ms ++ k) e.took ∙ ap (λ k. k ++ (messages_in e.steps ++ e.later)) (sym d.took) ∙ sym (append_assoc (messages_in d.steps) (messages_in e.steps) e.later)
-    ∙ ap (λ k. k ++ e.later) (sym (messages_in-append d.steps e.steps)) in
+    let heard : is ++ js ≡ inputs_in (d.steps ++ e.steps) ++ e.later =
+    ap (λ k. is ++ k) e.took ∙ ap (λ k. k ++ (inputs_in e.steps ++ e.later)) (sym d.took) ∙ sym (append_assoc (inputs_in d.steps) (inputs_in e.steps) e.later)
+    ∙ ap (λ k. k ++ e.later) (sym (inputs_in-append d.steps e.steps)) in
     record {
       steps = d.steps ++ e.steps;
       later = e.later;
       leads = Leads-append checked_language s d.steps e.steps d.leads (subst at d.there e.leads);
       took = heard;
+      gains = gains_then h.told h'.told h''.told d.steps e.steps d.gains e.gains;
       outs = first ++ e.outs;
       rest = e.rest;
       wrote = wrote_then s t d.steps e.steps e.outs e.rest d.there e.wrote;
-      writes = subst (Appends h h'') (sym (written_as-append first e.outs)) (Appends-trans h h' h'' _ _ d.writes e.writes);
+      writes = subst (Appends h.held h''.held) (sym (written_as-append first e.outs)) (Appends-trans h.held h'.held h''.held _ _ d.writes e.writes);
     }
 
 -- ---- calls
 
 -- a call behind what was done before
-pub works_then : {T : Type 0} (r : Result T WriteEnd) (s t u : State) (ms ns : List Message) (h h' h'' : Option (List ℕ)) (f f' f'' : ℕ)
-    → Did s ms t h h' → f' ≡ f → Works r t ns u h' h'' f' f'' → Works r s (ms ++ ns) u h h'' f f''
-works_then (Ok done) s t u ms ns h h' h'' f f' f'' d same w = (did_then s t u ms ns h h' h'' d w.0, w.1 ∙ same)
-works_then (Err Fault) s t u ms ns h h' h'' f f' f'' d same w =
-    (did_then_part s t ms ns h h' h'' d w.0, subst (λ k. HasRisen k f'') same w.1)
-works_then (Err NoMemory) s t u ms ns h h' h'' f f' f'' d same w = (did_then_front s t ms ns h h' h'' d w.0, w.1 ∙ same)
+pub works_then : {T : Type 0} (r : Result T WriteEnd) (s t u : State) (is js : List Inp) (h h' h'' : Kept) (f f' f'' : ℕ)
+    → Did s is t h h' → f' ≡ f → Works r t js u h' h'' f' f'' → Works r s (is ++ js) u h h'' f f''
+works_then (Ok done) s t u is js h h' h'' f f' f'' d same w = (did_then s t u is js h h' h'' d w.0, w.1 ∙ same)
+works_then (Err Fault) s t u is js h h' h'' f f' f'' d same w =
+    (did_then_part s t is js h h' h'' d w.0, subst (λ k. HasRisen k f'') same w.1)
+works_then (Err NoMemory) s t u is js h h' h'' f f' f'' d same w = (did_then_front s t is js h h' h'' d w.0, w.1 ∙ same)
 
--- a step whose message is written
-pub works_saying : {T : Type 0} (r : Result T WriteEnd) (s new : State) (x : Step) (out : Option Out) (h h' : Option (List ℕ)) (f f' : ℕ)
-    → Permits checked_language s x → new ≡ next checked_language s x → out ≡ written s x → Says r out h h' f f'
-    → Works r s (message_in x) new h h' f f'
-works_saying (Ok done) s new x out h h' f f' permitted made is says = (did_step s new x out h h' permitted made is says.0, says.1)
-works_saying (Err Fault) s new x out h h' f f' permitted made is says =
+-- a step of which the trace took note, and of which nothing was written for want of memory
+pub front_step : (s : State) (x : Step) (h h' : Kept) → Permits checked_language s x → h'.told ≡ with_steps h.told (x ∷ []) → Keeps h.held h'.held
+    → DidFront s (input_in x) h h'
+front_step s x h h' permitted told keeps = record {
+  steps = x ∷ [];
+  later = [];
+  leads = (permitted, tt);
+  took = sym (append-nil (input_in x ++ []) ∙ append-nil (input_in x));
+  gains = told;
+  outs = [];
+  rest = listed (written s x) ++ [];
+  wrote = refl;
+  writes = Appends-kept h.held h.held h'.held [] (Appends-nil h.held) keeps;
+}
+
+-- a step of which the trace took note, and whose message is written
+pub works_saying : {T : Type 0} (r : Result T WriteEnd) (s new : State) (x : Step) (out : Option Out) (h h' : Kept) (f f' : ℕ)
+    → Permits checked_language s x → new ≡ next checked_language s x → out ≡ written s x → h'.told ≡ with_steps h.told (x ∷ []) → Says r out h.held h'.held f f'
+    → Works r s (input_in x) new h h' f f'
+works_saying (Ok done) s new x out h h' f f' permitted made is told says = (did_step s new x out h h' permitted made is told says.0, says.1)
+works_saying (Err Fault) s new x out h h' f f' permitted made is told says =
     let last = says.0.0 in
     let wrote : listed (written s x) ++ [] ≡ last ∷ [] =
     append-nil (listed (written s x)) ∙ ap listed (sym is ∙ says.0.2) in (
       record {
         steps = x ∷ [];
         leads = (permitted, tt);
-        took = append-nil (message_in x);
+        took = append-nil (input_in x);
+        gains = told;
         outs = [];
         last = last;
         part = says.0.1;
@@ -164,20 +219,13 @@ works_saying (Err Fault) s new x out h h' f f' permitted made is says =
       },
       says.1,
     )
-works_saying (Err NoMemory) s new x out h h' f f' permitted made is says = (
-  record {
-    steps = x ∷ [];
-    later = [];
-    leads = (permitted, tt);
-    took = sym (append-nil (message_in x ++ []) ∙ append-nil (message_in x));
-    outs = [];
-    rest = listed (written s x) ++ [];
-    wrote = refl;
-    writes = Appends-kept h h h' [] (Appends-nil h) says.0;
-  },
-  says.1,
-)
+works_saying (Err NoMemory) s new x out h h' f f' permitted made is told says = (front_step s x h h' permitted told says.0, says.1)
 
--- no step for want of memory
-pub no_step : (s : State) (ms : List Message) (h : Option (List ℕ)) → DidFront s ms h h
-no_step s ms h = record { steps = []; later = ms; leads = tt; took = refl; outs = []; rest = []; wrote = refl; writes = Appends-nil h }
+-- a step that the trace is told, and whose message is then written
+pub works_telling : {T : Type 0} (r : Result T WriteEnd) (s new : State) (x : Step) (out : Option Out) (h h' : Kept) (f f' : ℕ)
+    → Permits checked_language s x → new ≡ next checked_language s x → out ≡ written s x → Tells r x out h h' f f'
+    → Works r s (input_in x) new h h' f f'
+works_telling r s new x out h h' f f' permitted made is (inl told) = works_saying r s new x out h h' f f' permitted made is told.0 told.1
+works_telling (Ok done) s new x out h h' f f' permitted made is (inr want) = absurd want.0
+works_telling (Err Fault) s new x out h h' f f' permitted made is (inr want) = absurd want.0
+works_telling (Err NoMemory) s new x out h h' f f' permitted made is (inr want) = (no_step s (input_in x) h h' want.1 want.2, want.3)

@@ -4,8 +4,9 @@ use Rattle.std.specs.Prelude.{MatchBool, MatchOption}
 use Rattle.std.proofs.lemmas.Slice.Eq.{bytes_eq-Decides}
 use Rattle.srb_terms.specs.declared.cause.Cause.{Cause}
 use Rattle.srb_cli.specs.Course.{Course, Listing, NoFileFailed}
+use Rattle.srb_cli.specs.Recorded.{Tracing, RecordsNothing, RecordsServing, IsRecorded}
 use Rattle.srb_cli.specs.Ends.{Ends, EndsText, EndsUsage, EndsChecking, EndsServing}
-use Rattle.srb_cli.specs.Usage.{is_text, only_folder, checked_folder, served_folder}
+use Rattle.srb_cli.specs.Usage.{is_text, only_folder, checked_folder, served_folder, checks_once}
 
 -- the words of `tc DIR` aren't those of `text`
 not_text : (words : List (List ℕ)) (dir : List ℕ) → checked_folder words ≡ Some dir → is_text words ≡ false
@@ -31,3 +32,12 @@ ends_checking words dir cause said c f same is ends =
     (MatchOption (served_folder words) (EndsUsage said c × NoFileFailed f) (λ d. EndsServing d said c f))
     (λ d. EndsChecking d said c f)))
     (sym (not_text words dir (sym is))) rest
+
+-- where the words name a folder to serve, what is recorded of the session is what a call with them records
+pub recorded_serving : (words : List (List ℕ)) (dir : List ℕ) (cause said : Cause) (c : Course) (f : Listing) (t : Tracing) → said ≡ cause
+    → checks_once words ≡ false → Some dir ≡ served_folder words → RecordsServing dir cause c f t → IsRecorded words said c f t
+recorded_serving words dir cause said c f t same once is recorded =
+    let served : MatchOption (served_folder words) (RecordsNothing t) (λ d. RecordsServing d said c f t) =
+    subst (λ o. MatchOption o (RecordsNothing t) (λ d. RecordsServing d said c f t))
+    is (subst (λ e. RecordsServing dir e c f t) (sym same) recorded) in
+    subst (λ b. MatchBool b (RecordsNothing t) (MatchOption (served_folder words) (RecordsNothing t) (λ d. RecordsServing d said c f t))) (sym once) served

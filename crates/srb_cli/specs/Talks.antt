@@ -1,6 +1,6 @@
 -- How far a session has come: what was heard of the source, and what the core's steps did and said. These words are those
 -- of the session's own functions; how a session ends is said by `Served`.
-use Rattle.std.specs.Prelude.{◌≡◌, ℕ, Bool, true, false, nat_lt, ◌<◌, List, [], ◌∷◌, ◌++◌, length, take, map, Option, None, Some, Result, Ok, Err, IsTrue, IsFalse, IsNone}
+use Rattle.std.specs.Prelude.{◌≡◌, ℕ, Bool, true, false, nat_lt, ◌<◌, List, [], ◌∷◌, ◌++◌, length, take, map, Option, None, Some, Result, Ok, Err, IsTrue, IsFalse, IsNone, ◌⊎◌}
 use Rattle.std.specs.Io.KnownBytes.{Appends, Consumes, Keeps, IsAtEnd}
 use Rattle.srb_io.specs.Counts.{HasRisen}
 use Rattle.lsp_frame.specs.Bodies.{bodies_of, IsReadTo}
@@ -15,19 +15,22 @@ use Rattle.lsp_msg.specs.Written.{body_of}
 use Rattle.lsp_msg.specs.declared.msg.Msg.{Msg as Message}
 use Rattle.lsp_msg.specs.declared.msg.Msg.TheVariants.{Exit}
 use Rattle.lsp_msg.specs.declared.out.Out.{Out}
+use Rattle.run_watch.specs.Told.{with_steps}
 use Rattle.run_watch.specs.declared.inp.Inp.{Inp}
 use Rattle.run_watch.specs.declared.inp.Inp.TheVariants.{Msg, End}
 use Rattle.run_watch.specs.declared.end_cause.EndCause.{EndCause}
 use Rattle.run_watch.specs.declared.end_cause.EndCause.TheVariants as end
 use Rattle.run_watch.specs.declared.step.Step.{Step}
+use Rattle.run_watch.specs.declared.step.Step.TheVariants.{Take}
 use Rattle.run_core.specs.declared.landed.Landed.{Landed}
 use Rattle.run_core.specs.declared.landed.Landed.TheVariants.{Shown, Quiet}
 use Rattle.run_core.specs.Histories.{listed}
 use Rattle.lsp_docs.specs.Projects.{Project}
 use Rattle.run_core.specs.Machine.{State, opening, looked, is_at_rest}
-use Rattle.run_core.specs.Runs.{Leads, state_after, written_by, messages_in}
+use Rattle.run_core.specs.Runs.{Leads, state_after, written_by}
 use Rattle.srb_cli.specs.Inputs.{messages_of, has_exit, end_of, GoesOn}
 use Rattle.run_core.specs.Cores.{checked_language}
+use Rattle.srb_cli.specs.Recorded.{inputs_in}
 use Rattle.srb_cli.specs.Served.{written_as}
 
 -- ---- what was heard
@@ -96,43 +99,65 @@ abbrev pub heard_in : Inp → List Message
 heard_in (Msg message) = message ∷ []
 heard_in (End cause) = []
 
--- These steps lead from one state to another and take these messages, and the sink gained what they write.
-pub record Did (old : State) (messages : List Message) (new : State) (before behind : Option (List ℕ)) : Type 0 where
+-- the messages among inputs
+abbrev pub heard_among : List Inp → List Message
+heard_among [] = []
+heard_among (inp ∷ inputs) = heard_in inp ++ heard_among inputs
+
+-- what the sink holds, and the steps that the trace tells
+pub record Kept : Type 0 where
+  pub held : Option (List ℕ)
+  pub told : Option (List Step)
+
+-- These steps lead from one state to another and take these inputs, the trace gained them, and the sink gained what they
+-- write.
+pub record Did (old : State) (inputs : List Inp) (new : State) (before behind : Kept) : Type 0 where
   pub steps : List Step
   pub leads : Leads checked_language old steps
   pub there : new ≡ state_after checked_language old steps
-  pub took : messages_in steps ≡ messages
-  pub writes : Appends before behind (written_as (written_by checked_language old steps))
+  pub took : inputs_in steps ≡ inputs
+  pub gains : behind.told ≡ with_steps before.told steps
+  pub writes : Appends before.held behind.held (written_as (written_by checked_language old steps))
 
--- Some steps did, and of what they write the sink gained whole frames up to the last one, of which it gained a part.
-pub record DidPart (old : State) (messages : List Message) (before behind : Option (List ℕ)) : Type 0 where
+-- The trace gained some steps, and of what they write the sink gained whole frames up to the last one, of which it gained
+-- a part.
+pub record DidPart (old : State) (inputs : List Inp) (before behind : Kept) : Type 0 where
   pub steps : List Step
   pub leads : Leads checked_language old steps
-  pub took : messages_in steps ≡ messages
+  pub took : inputs_in steps ≡ inputs
+  pub gains : behind.told ≡ with_steps before.told steps
   pub outs : List Out
   pub last : Out
   pub part : ℕ
   pub wrote : written_by checked_language old steps ≡ outs ++ last ∷ []
   pub short : part < length (frame (body_of last))
-  pub writes : Appends before behind (written_as outs ++ take part (frame (body_of last)))
+  pub writes : Appends before.held behind.held (written_as outs ++ take part (frame (body_of last)))
 
--- Some steps did that take the first of these messages, and of what they write the sink gained whole frames of a first
--- part.
-pub record DidFront (old : State) (messages : List Message) (before behind : Option (List ℕ)) : Type 0 where
+-- The trace gained some steps that take the first of these inputs, and of what they write the sink gained whole frames of
+-- a first part.
+pub record DidFront (old : State) (inputs : List Inp) (before behind : Kept) : Type 0 where
   pub steps : List Step
-  pub later : List Message
+  pub later : List Inp
   pub leads : Leads checked_language old steps
-  pub took : messages ≡ messages_in steps ++ later
+  pub took : inputs ≡ inputs_in steps ++ later
+  pub gains : behind.told ≡ with_steps before.told steps
   pub outs : List Out
   pub rest : List Out
   pub wrote : written_by checked_language old steps ≡ outs ++ rest
-  pub writes : Appends before behind (written_as outs)
+  pub writes : Appends before.held behind.held (written_as outs)
 
--- what a call did that takes these messages and may be cut short
-abbrev pub Works : {T : Type 0} → Result T WriteEnd → (old : State) → List Message → (new : State) → (before behind : Option (List ℕ)) → (faults_before faults : ℕ) → Type 0
-Works (Ok done) old messages new before behind faults_before faults = Did old messages new before behind × (faults ≡ faults_before)
-Works (Err Fault) old messages new before behind faults_before faults = DidPart old messages before behind × HasRisen faults_before faults
-Works (Err NoMemory) old messages new before behind faults_before faults = DidFront old messages before behind × (faults ≡ faults_before)
+-- what a call did that takes these inputs and may be cut short
+abbrev pub Works : {T : Type 0} → Result T WriteEnd → (old : State) → List Inp → (new : State) → (before behind : Kept) → (faults_before faults : ℕ) → Type 0
+Works (Ok done) old inputs new before behind faults_before faults = Did old inputs new before behind × (faults ≡ faults_before)
+Works (Err Fault) old inputs new before behind faults_before faults = DidPart old inputs before behind × HasRisen faults_before faults
+Works (Err NoMemory) old inputs new before behind faults_before faults = DidFront old inputs before behind × (faults ≡ faults_before)
+
+-- what a call did that takes no input and writes nothing, and may be cut short for want of memory, whatever the sink holds
+abbrev pub Goes : {T E : Type 0} → Result T E → (old new : State) → (told_before told : Option (List Step)) → Type 0
+Goes (Ok done) old new told_before told =
+    (held : Option (List ℕ)) → Did old [] new (record { held = held; told = told_before }) (record { held = held; told = told })
+Goes (Err end) old new told_before told =
+    (held : Option (List ℕ)) → DidFront old [] (record { held = held; told = told_before }) (record { held = held; told = told })
 
 -- what writing a message did, if there is one
 abbrev pub Says : {T : Type 0} → Result T WriteEnd → Option Out → (before behind : Option (List ℕ)) → (faults_before faults : ℕ) → Type 0
@@ -141,10 +166,33 @@ Says (Err Fault) out before behind faults_before faults =
     ((last : Out) × (part : ℕ) × (out ≡ Some last) × (part < length (frame (body_of last))) × Appends before behind (take part (frame (body_of last)))) × HasRisen faults_before faults
 Says (Err NoMemory) out before behind faults_before faults = Keeps before behind × (faults ≡ faults_before)
 
+-- it is want of memory
+abbrev pub IsWant : {T : Type 0} → Result T WriteEnd → Type 0
+IsWant (Ok done) = ⊥
+IsWant (Err Fault) = ⊥
+IsWant (Err NoMemory) = Unit {0}
+
+-- what telling the trace a step and then writing its message did, if there is one: the trace took note of it, or nothing
+-- was done for want of memory
+abbrev pub Tells : {T : Type 0} → Result T WriteEnd → Step → Option Out → (before behind : Kept) → (faults_before faults : ℕ) → Type 0
+Tells r step out before behind faults_before faults =
+    ((behind.told ≡ with_steps before.told (step ∷ [])) × Says r out before.held behind.held faults_before faults)
+    ⊎ (IsWant r × (behind.told ≡ before.told) × (behind.held ≡ before.held) × (faults ≡ faults_before))
+
 -- the message that is to be written of a file that was worked on
 abbrev pub shown_out : Landed → Option Out
 shown_out (Shown step out) = Some out
 shown_out (Quiet step) = None
+
+-- the input that a step takes, if it takes one
+abbrev pub taken : Step → Option Inp
+taken (Take inp) = Some inp
+taken step = None
+
+-- the step that was made where a file was worked on
+abbrev pub step_of : Landed → Step
+step_of (Shown step out) = step
+step_of (Quiet step) = step
 
 -- The inbox counts as looked at, the symbol table is built, and the end of input is as it was.
 pub record IsReady (old new : State) : Type 0 where
@@ -164,8 +212,8 @@ pub record IsSettled (new : State) (cause : Option EndCause) : Type 0 where
   pub ended : new.ended ≡ cause
 
 -- What a session heard and did before its next input.
-pub record IsUnderWay (base : Project) (left_before left : Option (List ℕ)) (reads_before reads : ℕ) (stream : Stream) (exited : Bool) (state : State) (held_before held : Option (List ℕ)) : Type 0 where
+pub record IsUnderWay (base : Project) (left_before left : Option (List ℕ)) (reads_before reads : ℕ) (stream : Stream) (exited : Bool) (state : State) (before kept : Kept) : Type 0 where
   pub messages : List Message
   pub heard : Heard left_before left reads_before reads stream exited messages
-  pub did : Did (opening base) messages state held_before held
+  pub did : Did (opening base) (map Msg messages) state before kept
   pub open_end : state.ended ≡ None

@@ -2,6 +2,7 @@ ghost use Rattle.std.specs.Prelude.{◌≡◌, IfOk};
 
 use crate::commands::run;
 use crate::session_tests::{many_files, sink_of, source_of};
+use run_watch::NoTrace;
 use srb_io::{Files, MemFiles, MemSink, Sink};
 use srb_terms::{Cause, Ended};
 use std::alloc::{AllocError, Global};
@@ -43,7 +44,15 @@ fn ended_on<R: Threads + Wait + Sync>(
         Vec::new(alloc),
         vec![in alloc; 1; 1]?,
     );
-    Ok(run(rt, alloc, &words, &mut files, &mut source, sink))
+    Ok(run(
+        rt,
+        alloc,
+        &words,
+        &mut files,
+        &mut source,
+        sink,
+        &mut NoTrace,
+    ))
 }
 
 /// The status of `tc d` over these files, and what it writes.

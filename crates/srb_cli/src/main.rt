@@ -7,6 +7,8 @@ mod folder;
 #[cfg(test)]
 mod folder_tests;
 mod one_thread;
+#[cfg(test)]
+mod record_tests;
 mod report;
 mod serving;
 mod session;
@@ -18,6 +20,7 @@ mod text;
 mod usage;
 
 use commands::run;
+use run_watch::NoTrace;
 use srb_io::{DirFiles, StdSink, StdSource};
 use srb_terms::Cause;
 use std::alloc::AllocError;
@@ -53,6 +56,7 @@ fn main(rt: HostRuntime) -> ExitCode {
                 &mut files,
                 &mut source,
                 &mut sink,
+                &mut NoTrace,
             );
             ExitCode::from(ended.status)
         }

@@ -1,26 +1,29 @@
 ghost use Rattle.std.specs.Prelude.{◌≡◌, ◌-◌, ◌^◌, ◌<◌};
 ghost use Rattle.srb_cli.specs.Ends.{EndsServing};
+ghost use Rattle.srb_cli.specs.Recorded.{RecordsServing};
 
 use crate::folder::read_folder;
 use crate::session::serve;
+use run_watch::Trace;
 use srb_io::{Files, Sink, Source};
 use srb_terms::Cause;
 use std::alloc::Global;
 use std::sync::Wait;
 
 /// Reads the files below `dir`, and serves a session over them.
-pub fn lsp<R: Wait, F: Files, S: Source, K: Sink>(
+pub fn lsp<R: Wait, F: Files, S: Source, K: Sink, T: Trace>(
     rt: &R,
     alloc: Global,
     dir: &str,
     files: &mut F,
     source: &mut S,
     sink: &mut K,
+    trace: &mut T,
 ) -> Cause
     requires files { F.faults files.old < 2 ^ 64 - 1 }
     requires reads { S.faults source.old < 2 ^ 64 - 1 }
     requires writes { K.faults sink.old < 2 ^ 64 - 1 }
-    ensures { EndsServing dir.now result record {
+    ensures ends { EndsServing dir.now result record {
       left_before = S.left source.old;
       left_behind = S.left source.new;
       held_before = K.held sink.old;
@@ -34,9 +37,26 @@ pub fn lsp<R: Wait, F: Files, S: Source, K: Sink>(
       failed_before = F.faults files.old;
       failed_behind = F.faults files.new;
     } }
+    ensures recorded { RecordsServing dir.now result record {
+      left_before = S.left source.old;
+      left_behind = S.left source.new;
+      held_before = K.held sink.old;
+      held_behind = K.held sink.new;
+      reads_before = S.faults source.old;
+      reads_behind = S.faults source.new;
+      writes_before = K.faults sink.old;
+      writes_behind = K.faults sink.new;
+    } record {
+      told = F.told files.old;
+      failed_before = F.faults files.old;
+      failed_behind = F.faults files.new;
+    } record {
+      told_before = T.told trace.old;
+      told_behind = T.told trace.new;
+    } }
 {
     match read_folder(alloc, files, dir) {
-        Ok(project) => serve(rt, alloc, project, source, sink),
+        Ok(project) => serve(rt, alloc, project, source, sink, trace),
         Err(cause) => cause,
     }
 }

@@ -2,18 +2,19 @@ ghost use Rattle.std.specs.Prelude.{◌≡◌, ◌-◌, ◌^◌, ◌<◌, ◌∷
 ghost use Rattle.std.specs.declared.option.Option.{Option};
 ghost use Rattle.srb_terms.specs.Projects.{IsProject};
 ghost use Rattle.lsp_msg.specs.declared.msg.Msg.{Msg as Message};
+ghost use Rattle.run_watch.specs.Told.{with_steps};
 ghost use Rattle.run_watch.specs.declared.step.Step.TheVariants.{Take};
 ghost use Rattle.run_core.specs.Machine.{looked, is_at_rest};
 ghost use Rattle.run_core.specs.Cores.{ended_by};
 ghost use Rattle.srb_cli.specs.Folders.{IsWithin};
 ghost use Rattle.srb_cli.specs.Inputs.{cause_of};
-ghost use Rattle.srb_cli.specs.Ends.{Serves};
-ghost use Rattle.srb_cli.specs.Talks.{Heard, IsHeard, end_for, HeardFront, ends_messages, heard_in, shown_out, Did, Works, Says, IsReady, IsDone, IsSettled};
+ghost use Rattle.srb_cli.specs.Recorded.{ServesRecorded};
+ghost use Rattle.srb_cli.specs.Talks.{Heard, IsHeard, end_for, HeardFront, ends_messages, shown_out, step_of, taken, Goes, Works, Says, Tells, IsReady, IsDone, IsSettled};
 
 use lsp_frame::{FrameEnd, Frames, Input, WriteEnd, write};
 use lsp_msg::{Msg, Out, decode, encode};
 use run_core::{Core, Landed};
-use run_watch::{EndCause, Inp};
+use run_watch::{EndCause, Inp, Step, Trace};
 use srb_io::{Sink, Source};
 use srb_terms::{Cause, NoMemory, Project, Steps};
 use std::alloc::{AllocError, Global};
@@ -87,13 +88,73 @@ fn say<K: Sink>(alloc: Global, sink: &mut K, out: Option<Out>) -> Result<(), Wri
     write(alloc, sink, body.as_slice())
 }
 
+/// Tells the trace a step that was made, and writes its message, if there is one.
+fn tell<K: Sink, T: Trace>(
+    alloc: Global,
+    sink: &mut K,
+    trace: &mut T,
+    step: &Step,
+    out: Option<Out>,
+) -> Result<(), WriteEnd>
+    requires { K.faults sink.old < 2 ^ 64 - 1 }
+    ensures { Tells result step.now out (record { held = K.held sink.old; told = T.told trace.old }) (record { held = K.held sink.new; told = T.told trace.new }) (K.faults sink.old) (K.faults sink.new) }
+{
+    match trace.step(step) {
+        Ok(()) => say(alloc, sink, out),
+        Err(_) => Err(WriteEnd::NoMemory),
+    }
+}
+
+/// The input that a step takes, if it takes one.
+fn taken(step: Step) -> Option<Inp>
+    ensures { result ≡ taken step }
+{
+    match step {
+        Step::Take { inp } => Some(inp),
+        Step::Work {
+            path: _path,
+            epoch: _epoch,
+            list: _list,
+            shown: _shown,
+        } => None,
+        Step::Dropped { path: _path } => None,
+        _ => None,
+    }
+}
+
+/// Tells the trace that this input is taken, and gives it back.
+fn note_taken<T: Trace>(trace: &mut T, inp: Inp) -> Result<Inp, NoMemory>
+    ensures same { IfOk result (λ back. back ≡ inp) }
+    ensures told { MatchResult result (λ _. T.told trace.new ≡ with_steps (T.told trace.old) (Take inp ∷ [])) (λ _. T.told trace.new ≡ T.told trace.old) }
+{
+    let step = Step::Take { inp };
+    match trace.step(&step) {
+        Ok(()) => {}
+        Err(_) => return Err(AllocError),
+    }
+    match taken(step) {
+        Some(inp) => Ok(inp),
+        None => unreachable!(),
+    }
+}
+
 /// Takes the input, and writes the answer.
-fn take_in<K: Sink>(alloc: Global, core: &mut Core, sink: &mut K, inp: Inp) -> Result<(), WriteEnd>
+fn take_in<K: Sink, T: Trace>(
+    alloc: Global,
+    core: &mut Core,
+    sink: &mut K,
+    trace: &mut T,
+    inp: Inp,
+) -> Result<(), WriteEnd>
     requires writes { K.faults sink.old < 2 ^ 64 - 1 }
     requires unended { core.old.state.ended ≡ None }
-    ensures works { Works result core.old.state (heard_in inp) core.new.state (K.held sink.old) (K.held sink.new) (K.faults sink.old) (K.faults sink.new) }
+    ensures works { Works result core.old.state (inp ∷ []) core.new.state (record { held = K.held sink.old; told = T.told trace.old }) (record { held = K.held sink.new; told = T.told trace.new }) (K.faults sink.old) (K.faults sink.new) }
     ensures ended { OnOk result (core.new.state.ended ≡ ended_by inp) }
 {
+    let inp = match note_taken(trace, inp) {
+        Ok(inp) => inp,
+        Err(_) => return Err(WriteEnd::NoMemory),
+    };
     match core.take(alloc, inp) {
         Ok(out) => say(alloc, sink, out),
         Err(_) => Err(WriteEnd::NoMemory),
@@ -101,76 +162,106 @@ fn take_in<K: Sink>(alloc: Global, core: &mut Core, sink: &mut K, inp: Inp) -> R
 }
 
 /// Finds the inbox empty, where it doesn't count as looked at: on one thread no input waits there.
-fn look(core: &mut Core)
-    ensures did { (held : Option (List ℕ)) → Did core.old.state [] core.new.state held held }
-    ensures looked { IsTrue (looked core.new.state) }
+fn look<T: Trace>(core: &mut Core, trace: &mut T) -> Result<(), NoMemory>
+    ensures goes { Goes result core.old.state core.new.state (T.told trace.old) (T.told trace.new) }
+    ensures looked { OnOk result (IsTrue (looked core.new.state)) }
     ensures stale { core.new.state.stale ≡ core.old.state.stale }
     ensures todo { core.new.state.todo ≡ core.old.state.todo }
     ensures ended { core.new.state.ended ≡ core.old.state.ended }
 {
-    if !core.is_looked() {
-        core.looked();
+    if core.is_looked() {
+        return Ok(());
+    }
+    core.looked();
+    trace.step(&Step::Look)
+}
+
+/// Builds the symbol table, which is stale.
+fn build<T: Trace>(alloc: Global, core: &mut Core, trace: &mut T) -> Result<(), NoMemory>
+    requires looked { IsTrue (looked core.old.state) }
+    requires stale { IsTrue core.old.state.stale }
+    ensures goes { Goes result core.old.state core.new.state (T.told trace.old) (T.told trace.new) }
+    ensures ready { OnOk result (IsReady core.old.state core.new.state) }
+{
+    match core.build(alloc) {
+        Ok(()) => trace.step(&Step::Build),
+        Err(_) => Err(AllocError),
     }
 }
 
 /// Looks at the inbox, and builds the symbol table where it is stale.
-fn prepare(alloc: Global, core: &mut Core) -> Result<(), NoMemory>
-    ensures did { OnOk result ((held : Option (List ℕ)) → Did core.old.state [] core.new.state held held) }
+fn prepare<T: Trace>(alloc: Global, core: &mut Core, trace: &mut T) -> Result<(), NoMemory>
+    ensures goes { Goes result core.old.state core.new.state (T.told trace.old) (T.told trace.new) }
     ensures ready { OnOk result (IsReady core.old.state core.new.state) }
 {
-    look(core);
-    if core.is_stale() {
-        core.build(alloc)?;
+    match look(core, trace) {
+        Ok(()) => {}
+        Err(_) => return Err(AllocError),
     }
-    Ok(())
+    if core.is_stale() {
+        build(alloc, core, trace)
+    } else {
+        Ok(())
+    }
 }
 
-/// The message that is to be written of a file that was worked on.
-fn shown_out(landed: Landed) -> Option<Out>
-    ensures { result ≡ shown_out landed }
+/// Tells the trace the step of a file that was worked on, and writes its errors where they are to be shown.
+fn tell_landed<K: Sink, T: Trace>(
+    alloc: Global,
+    sink: &mut K,
+    trace: &mut T,
+    landed: Landed,
+) -> Result<(), WriteEnd>
+    requires { K.faults sink.old < 2 ^ 64 - 1 }
+    ensures { Tells result (step_of landed) (shown_out landed) (record { held = K.held sink.old; told = T.told trace.old }) (record { held = K.held sink.new; told = T.told trace.new }) (K.faults sink.old) (K.faults sink.new) }
 {
     match landed {
-        Landed::Shown(_step, out) => Some(out),
-        Landed::Quiet(_step) => None,
+        Landed::Shown(step, out) => tell(alloc, sink, trace, &step, Some(out)),
+        Landed::Quiet(step) => tell(alloc, sink, trace, &step, None),
     }
 }
 
 /// Works on the next file, and writes its errors where they are to be shown.
-fn work_on_next<L: Ledger, K: Sink>(
+fn work_on_next<L: Ledger, K: Sink, T: Trace>(
     alloc: Global,
     core: &mut Core,
     sink: &mut K,
+    trace: &mut T,
     steps: &mut Steps<L>,
 ) -> Result<(), WriteEnd>
     requires writes { K.faults sink.old < 2 ^ 64 - 1 }
     requires built { IsFalse core.old.state.stale }
     requires some { IsFalse (is_at_rest core.old.state) }
-    ensures works { Works result core.old.state [] core.new.state (K.held sink.old) (K.held sink.new) (K.faults sink.old) (K.faults sink.new) }
+    ensures works { Works result core.old.state [] core.new.state (record { held = K.held sink.old; told = T.told trace.old }) (record { held = K.held sink.new; told = T.told trace.new }) (K.faults sink.old) (K.faults sink.new) }
     ensures built { OnOk result (IsFalse core.new.state.stale) }
     ensures fewer { OnOk result (length core.new.state.todo < length core.old.state.todo) }
     ensures ended { OnOk result (core.new.state.ended ≡ core.old.state.ended) }
 {
-    look(core);
+    match look(core, trace) {
+        Ok(()) => {}
+        Err(_) => return Err(WriteEnd::NoMemory),
+    }
     match core.check_own(alloc, steps) {
-        Ok(landed) => say(alloc, sink, shown_out(landed)),
+        Ok(landed) => tell_landed(alloc, sink, trace, landed),
         Err(_) => Err(WriteEnd::NoMemory),
     }
 }
 
 /// Works on all files that are to be worked on.
-fn work<L: Ledger, K: Sink>(
+fn work<L: Ledger, K: Sink, T: Trace>(
     alloc: Global,
     core: &mut Core,
     sink: &mut K,
+    trace: &mut T,
     steps: &mut Steps<L>,
 ) -> Result<(), WriteEnd>
     requires writes { K.faults sink.old < 2 ^ 64 - 1 }
     requires built { IsFalse core.old.state.stale }
-    ensures works { Works result core.old.state [] core.new.state (K.held sink.old) (K.held sink.new) (K.faults sink.old) (K.faults sink.new) }
+    ensures works { Works result core.old.state [] core.new.state (record { held = K.held sink.old; told = T.told trace.old }) (record { held = K.held sink.new; told = T.told trace.new }) (K.faults sink.old) (K.faults sink.new) }
     ensures done { OnOk result (IsDone core.old.state core.new.state) }
 {
     'files: while !core.rest() {
-        match work_on_next(alloc, core, sink, steps) {
+        match work_on_next(alloc, core, sink, trace, steps) {
             Ok(()) => {}
             Err(end) => return Err(end),
         }
@@ -179,44 +270,54 @@ fn work<L: Ledger, K: Sink>(
 }
 
 /// Replies to `shutdown`, where it isn't answered yet.
-fn reply<K: Sink>(alloc: Global, core: &mut Core, sink: &mut K) -> Result<(), WriteEnd>
+fn reply<K: Sink, T: Trace>(
+    alloc: Global,
+    core: &mut Core,
+    sink: &mut K,
+    trace: &mut T,
+) -> Result<(), WriteEnd>
     requires writes { K.faults sink.old < 2 ^ 64 - 1 }
     requires rest { IsTrue (is_at_rest core.old.state) }
-    ensures works { Works result core.old.state [] core.new.state (K.held sink.old) (K.held sink.new) (K.faults sink.old) (K.faults sink.new) }
+    ensures works { Works result core.old.state [] core.new.state (record { held = K.held sink.old; told = T.told trace.old }) (record { held = K.held sink.new; told = T.told trace.new }) (K.faults sink.old) (K.faults sink.new) }
     ensures settled { OnOk result (IsSettled core.new.state core.old.state.ended) }
 {
-    look(core);
+    match look(core, trace) {
+        Ok(()) => {}
+        Err(_) => return Err(WriteEnd::NoMemory),
+    }
     match core.idle(alloc) {
-        Ok(out) => say(alloc, sink, out),
+        Ok(out) => tell(alloc, sink, trace, &Step::Idle, out),
         Err(_) => Err(WriteEnd::NoMemory),
     }
 }
 
 /// Takes the input, and does and writes all that follows from it.
-fn answer<L: Ledger, K: Sink>(
+fn answer<L: Ledger, K: Sink, T: Trace>(
     alloc: Global,
     core: &mut Core,
     sink: &mut K,
+    trace: &mut T,
     steps: &mut Steps<L>,
     inp: Inp,
 ) -> Result<(), WriteEnd>
     requires writes { K.faults sink.old < 2 ^ 64 - 1 }
     requires unended { core.old.state.ended ≡ None }
-    ensures works { Works result core.old.state (heard_in inp) core.new.state (K.held sink.old) (K.held sink.new) (K.faults sink.old) (K.faults sink.new) }
+    ensures works { Works result core.old.state (inp ∷ []) core.new.state (record { held = K.held sink.old; told = T.told trace.old }) (record { held = K.held sink.new; told = T.told trace.new }) (K.faults sink.old) (K.faults sink.new) }
     ensures settled { OnOk result (IsSettled core.new.state (ended_by inp)) }
 {
-    match take_in(alloc, core, sink, inp) {
+    match take_in(alloc, core, sink, trace, inp) {
         Ok(()) => {}
         Err(end) => return Err(end),
     }
-    let Ok(()) = prepare(alloc, core) else {
-        return Err(WriteEnd::NoMemory);
-    };
-    match work(alloc, core, sink, steps) {
+    match prepare(alloc, core, trace) {
+        Ok(()) => {}
+        Err(_) => return Err(WriteEnd::NoMemory),
+    }
+    match work(alloc, core, sink, trace, steps) {
         Ok(()) => {}
         Err(end) => return Err(end),
     }
-    reply(alloc, core, sink)
+    reply(alloc, core, sink, trace)
 }
 
 /// The cause for which a session ends behind this end of its input.
@@ -240,12 +341,13 @@ fn cause_of(end: EndCause, accepted: bool) -> Cause
 }
 
 /// Serves a session, whose checks are counted on this blank.
-fn serve_counting<R: Wait, L: Ledger, S: Source, K: Sink>(
+fn serve_counting<R: Wait, L: Ledger, S: Source, K: Sink, T: Trace>(
     rt: &R,
     alloc: Global,
     project: Project,
     source: &mut S,
     sink: &mut K,
+    trace: &mut T,
     blank: Blank,
 ) -> Cause
     requires name { blank.name ≡ L.name }
@@ -255,7 +357,7 @@ fn serve_counting<R: Wait, L: Ledger, S: Source, K: Sink>(
     requires within { IsWithin project }
     requires reads { S.faults source.old < 2 ^ 64 - 1 }
     requires writes { K.faults sink.old < 2 ^ 64 - 1 }
-    ensures { Serves project result record {
+    ensures { ServesRecorded project result record {
       left_before = S.left source.old;
       left_behind = S.left source.new;
       held_before = K.held sink.old;
@@ -264,6 +366,9 @@ fn serve_counting<R: Wait, L: Ledger, S: Source, K: Sink>(
       reads_behind = S.faults source.new;
       writes_before = K.faults sink.old;
       writes_behind = K.faults sink.new;
+    } record {
+      told_before = T.told trace.old;
+      told_behind = T.told trace.new;
     } }
 {
     let mut steps: Steps<L> = Steps::new(blank);
@@ -278,7 +383,7 @@ fn serve_counting<R: Wait, L: Ledger, S: Source, K: Sink>(
             Err(_) => return Cause::NoMemory,
         };
         exited = ends_messages(&inp);
-        match answer(alloc, &mut core, sink, &mut steps, inp) {
+        match answer(alloc, &mut core, sink, trace, &mut steps, inp) {
             Ok(()) => {}
             Err(WriteEnd::Fault) => return Cause::WriteFault,
             Err(WriteEnd::NoMemory) => return Cause::NoMemory,
@@ -292,18 +397,19 @@ fn serve_counting<R: Wait, L: Ledger, S: Source, K: Sink>(
 }
 
 /// Serves a session over this project: reads one message after the other, and does and writes all that follows from it.
-pub fn serve<R: Wait, S: Source, K: Sink>(
+pub fn serve<R: Wait, S: Source, K: Sink, T: Trace>(
     rt: &R,
     alloc: Global,
     project: Project,
     source: &mut S,
     sink: &mut K,
+    trace: &mut T,
 ) -> Cause
     requires ordered { IsProject project }
     requires within { IsWithin project }
     requires reads { S.faults source.old < 2 ^ 64 - 1 }
     requires writes { K.faults sink.old < 2 ^ 64 - 1 }
-    ensures { Serves project result record {
+    ensures { ServesRecorded project result record {
       left_before = S.left source.old;
       left_behind = S.left source.new;
       held_before = K.held sink.old;
@@ -312,7 +418,10 @@ pub fn serve<R: Wait, S: Source, K: Sink>(
       reads_behind = S.faults source.new;
       writes_before = K.faults sink.old;
       writes_behind = K.faults sink.new;
+    } record {
+      told_before = T.told trace.old;
+      told_behind = T.told trace.new;
     } }
 {
-    serve_counting::<R, Brand, S, K>(rt, alloc, project, source, sink, Blank::new(1))
+    serve_counting::<R, Brand, S, K, T>(rt, alloc, project, source, sink, trace, Blank::new(1))
 }

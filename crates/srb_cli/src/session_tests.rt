@@ -1,6 +1,7 @@
 ghost use Rattle.std.specs.Prelude.{◌≡◌, IfOk};
 
 use crate::commands::run;
+use run_watch::NoTrace;
 use srb_io::{Files, MemFiles, MemSink, MemSource, Sink, Source};
 use std::alloc::{AllocError, Global};
 use std::sync::Wait;
@@ -26,7 +27,7 @@ const LIST: &str =
 const NULL: &str = r#"{"id":2,"jsonrpc":"2.0","result":null}"#;
 
 /// The frames of these bodies.
-fn frames_of(alloc: Global, bodies: &[&str]) -> Result<Vec<u8>, AllocError> {
+pub(crate) fn frames_of(alloc: Global, bodies: &[&str]) -> Result<Vec<u8>, AllocError> {
     let mut frames = Vec::new(alloc);
     for body in bodies {
         let size = body.len();
@@ -49,7 +50,7 @@ pub(crate) fn sink_of(alloc: Global, fail_at: Vec<u64>) -> MemSink
 }
 
 /// The files at these paths with these texts.
-fn files_of(alloc: Global, files: &[(&str, &str)]) -> Result<MemFiles, AllocError>
+pub(crate) fn files_of(alloc: Global, files: &[(&str, &str)]) -> Result<MemFiles, AllocError>
     ensures { IfOk result (λ f. ⟦<MemFiles as Files>⟧.faults f ≡ 0) }
 {
     let mut list = Vec::new(alloc);
@@ -78,7 +79,15 @@ fn ended_on<R: Threads + Wait + Sync>(
         String::from_str(alloc, "lsp")?,
         String::from_str(alloc, "d")?,
     ];
-    let ended = run(rt, alloc, &words, &mut files, &mut source, &mut sink);
+    let ended = run(
+        rt,
+        alloc,
+        &words,
+        &mut files,
+        &mut source,
+        &mut sink,
+        &mut NoTrace,
+    );
     Ok((ended.status, sink.held))
 }
 

@@ -1,6 +1,7 @@
 ghost use Rattle.std.specs.Prelude.{◌≡◌, None, IfOk};
 
 use crate::commands::run;
+use run_watch::NoTrace;
 use srb_io::{Failed, Files, MemFiles, MemSink, MemSource, Sink, Source};
 use std::alloc::{AllocError, Global};
 use std::sync::Wait;
@@ -73,6 +74,7 @@ fn checked<R: Threads + Wait + Sync>(
         &mut no_files(alloc),
         &mut source,
         &mut sink,
+        &mut NoTrace,
     );
     Ok((ended.status, sink.held))
 }
@@ -248,6 +250,7 @@ fn other_words(rt: HostRuntime) -> Result<(), Fail> {
             &mut no_files(alloc),
             &mut source,
             &mut sink,
+            &mut NoTrace,
         );
         assert_eq!(rt; ended.status, 2);
         assert_eq!(rt;
@@ -272,6 +275,7 @@ fn a_source_that_fails_at_each_of_its_reads(rt: HostRuntime) -> Result<(), Fail>
             &mut no_files(alloc),
             &mut source,
             &mut sink,
+            &mut NoTrace,
         );
         assert_eq!(rt; ended.status, 3);
         assert_eq!(rt; sink.held.as_slice(), b"".as_slice());
@@ -293,6 +297,7 @@ fn a_sink_that_fails_or_takes_one_byte_at_a_time(rt: HostRuntime) -> Result<(), 
         &mut no_files(alloc),
         &mut source,
         &mut sink,
+        &mut NoTrace,
     );
     assert_eq!(rt; ended.status, 4);
     assert_eq!(rt; sink.held.as_slice(), b"".as_slice());
@@ -310,6 +315,7 @@ fn a_sink_that_fails_or_takes_one_byte_at_a_time(rt: HostRuntime) -> Result<(), 
             &mut no_files(alloc),
             &mut source,
             &mut sink,
+            &mut NoTrace,
         );
         let whole = room >= report.len();
         assert_eq!(rt; ended.status, if whole { 1 } else { 4 });

@@ -1,5 +1,9 @@
-use Rattle.srb_cli.proofs.Rounds.{look_did}
+use Rattle.srb_cli.proofs.Deeds.{did_nothing}
+use Rattle.srb_cli.proofs.Rounds.{looks}
 use Rattle.srb_cli.proofs.session.look.Goals as goal
 
-pub returns-then-not-is_looked-clause-did : goal.returns-then-not-is_looked-clause-did
-returns-then-not-is_looked-clause-did c = λ held. look_did _ _ held c.looked.ensures.makes
+pub returns-then-is_looked-clause-goes : goal.returns-then-is_looked-clause-goes
+returns-then-is_looked-clause-goes g c = λ held. did_nothing _ _
+
+pub returns-clause-goes : goal.returns-clause-goes
+returns-clause-goes g c = looks c.step.result _ _ _ _ c.looked.ensures.makes c.step.ensures

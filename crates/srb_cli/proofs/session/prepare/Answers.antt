@@ -1,5 +1,5 @@
-use Rattle.srb_cli.proofs.Rounds.{build_did}
+use Rattle.srb_cli.proofs.Rounds.{goes_then}
 use Rattle.srb_cli.proofs.session.prepare.Goals as goal
 
-pub returns-in_ok-build-clause-did : goal.returns-in_ok-build-clause-did
-returns-in_ok-build-clause-did c = λ held. build_did _ _ _ held (c.look.ensures.did held) c.in_ok-build.ensures.makes
+pub returns-then-is_stale-clause-goes : goal.returns-then-is_stale-clause-goes
+returns-then-is_stale-clause-goes g c = goes_then c.build.result _ _ _ _ _ _ c.in-Ok.ensures.goes c.build.ensures.goes
