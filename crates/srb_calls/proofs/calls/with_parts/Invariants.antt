@@ -1,0 +1,7 @@
+use Rattle.std.proofs.Common.{◌≡◌, drop}
+use Rattle.srb_calls.specs.Calls as spec
+use Rattle.srb_calls.proofs.calls.with_parts.Given as goal
+
+abbrev pub invariant-parts : goal.invariant-parts
+invariant-parts l =
+    spec.with_parts l.w l.recv l.args l.end (drop l.part-index l.parts) ≡ spec.with_parts l.w l.recv l.args l.fn.end l.parts
