@@ -1,0 +1,6 @@
+pub mod Chains
+pub mod Examples
+pub mod Forms
+pub mod Signatures
+pub mod Types
+pub mod Views
