@@ -1,0 +1,11 @@
+pub mod ExamplesOfBodies
+pub mod ExamplesOfBranches
+pub mod ExamplesOfCalls
+pub mod ExamplesOfConditions
+pub mod ExamplesOfEnvironments
+pub mod ExamplesOfGuards
+pub mod ExamplesOfLoops
+pub mod ExamplesOfOperators
+pub mod ExamplesOfWords
+pub mod Folds
+pub mod Nodes
