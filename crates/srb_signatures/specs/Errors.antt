@@ -2,7 +2,7 @@
 -- or an attribute of which it is a well-formed signature: anything else is an error at the `sig` statement. Where methods need signatures,
 -- a method or attribute that no `sig` statement stands directly before has an error too. At the program's level `sig` is a call like any
 -- other, so no method there has a signature.
-use Rattle.std.specs.Prelude.{ℕ, Bool, true, false, List, [], ◌∷◌, ◌++◌, codes, if◌then◌else◌, Option, Some, None}
+use Rattle.std.specs.Prelude.{ℕ, Bool, List, [], ◌∷◌, ◌++◌, codes, if◌then◌else◌, Option, Some, None}
 use Rattle.srb_terms.specs.declared.diag.Diag.{Diag}
 use Rattle.rb_tree.specs.Trees.{span_of}
 use Rattle.rb_tree.specs.declared.syntax.Tree.{Tree, para-Tree}

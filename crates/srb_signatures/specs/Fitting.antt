@@ -46,7 +46,7 @@ abbrev pub fits_symbol_at : {X Y : Type 0} → Attribute → Option Signature �
 fits_symbol_at kind said (Node-F.Symbol words span) = fits_said kind said words
 fits_symbol_at kind said _ = true
 
--- what isn't a symbol declares nothing, so any signature fits it
+-- what isn't a symbol declares nothing, so any signature with a result fits it
 unfoldable pub fits_symbol : Attribute → Option Signature → Tree → Bool
 fits_symbol kind said t = fits_symbol_at kind said (out-Node t.node)
 
@@ -54,9 +54,14 @@ abbrev pub fits_argument : Attribute → Option Signature → Argument Tree → 
 fits_argument kind said (argument.Positional value) = fits_symbol kind said value
 fits_argument kind said _ = true
 
--- a signature counts for each name of an attribute statement
+-- whether it is a signature with one result
+abbrev pub is_formed : Option Signature → Bool
+is_formed None = false
+is_formed (Some s) = has_result s
+
+-- a signature counts for each name of an attribute statement; one that is malformed in itself fits none, also where no symbol stands
 abbrev pub fits_attributes : Attribute → Option Signature → List (Argument Tree) → Bool
-fits_attributes kind said arguments = list_all (fits_argument kind said) arguments
+fits_attributes kind said arguments = is_formed said && list_all (fits_argument kind said) arguments
 
 -- ---- the statement after a `sig` statement
 

@@ -72,13 +72,19 @@ fn fits_argument<'a>(
     }
 }
 
-/// Whether it is one of each attribute that the arguments name.
-pub fn fits_attributes<'a>(
-    kind: Attribute,
-    said: Option<Signature<'a>>,
-    arguments: &[Argument<Tree>],
-) -> bool
-    ensures { result ≡ spec.fits_attributes kind (option_map signatures.seen_signature said.entry) arguments.now }
+/// Whether it is a signature with one result.
+fn is_formed<'a>(said: Option<Signature<'a>>) -> bool
+    ensures { result ≡ spec.is_formed (option_map signatures.seen_signature said.entry) }
+{
+    match said {
+        None => false,
+        Some(said) => has_result(said),
+    }
+}
+
+/// Whether it is one of each attribute that arguments name.
+fn fits_each<'a>(kind: Attribute, said: Option<Signature<'a>>, arguments: &[Argument<Tree>]) -> bool
+    ensures { result ≡ list_all (spec.fits_argument kind (option_map signatures.seen_signature said.entry)) arguments.now }
 {
     'arguments: for argument in arguments {
         if !fits_argument(kind, said, argument) {
@@ -86,4 +92,15 @@ pub fn fits_attributes<'a>(
         }
     }
     true
+}
+
+/// Whether it is well-formed, and one of each attribute that the arguments name.
+pub fn fits_attributes<'a>(
+    kind: Attribute,
+    said: Option<Signature<'a>>,
+    arguments: &[Argument<Tree>],
+) -> bool
+    ensures { result ≡ spec.fits_attributes kind (option_map signatures.seen_signature said.entry) arguments.now }
+{
+    is_formed(said) && fits_each(kind, said, arguments)
 }

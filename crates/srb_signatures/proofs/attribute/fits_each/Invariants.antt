@@ -2,7 +2,7 @@ use Rattle.std.proofs.Common.{◌≡◌, drop, option_map}
 use Rattle.std.specs.List.{list_all}
 use Rattle.rb_rewrite.specs.Signatures.{seen_signature}
 use Rattle.srb_signatures.specs.Fitting.{fits_argument}
-use Rattle.srb_signatures.proofs.attribute.fits_attributes.Given as goal
+use Rattle.srb_signatures.proofs.attribute.fits_each.Given as goal
 
 abbrev pub invariant-arguments : goal.invariant-arguments
 invariant-arguments l =
