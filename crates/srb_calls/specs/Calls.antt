@@ -1,16 +1,16 @@
--- Calls: what a call answers, what it gives to its block, and its errors.
+-- Calls: what a call answers, what it gives to its block, and its errors, by what is known of a project.
 use Rattle.std.specs.Prelude.{ℕ, List, [], ◌∷◌, ◌++◌, Option, None, Some, codes, bytes_eq, replicate, if◌then◌else◌}
 use Rattle.srb_terms.specs.declared.diag.Diag.{Diag}
 use Rattle.srb_terms.specs.declared.ty.Param.{Param}
 use Rattle.srb_terms.specs.declared.ty.Ty.{Ty, out-Ty}
 use Rattle.srb_terms.specs.declared.ty.Ty.TheOpen.{Ty-F}
 use Rattle.srb_terms.specs.declared.ty.Ty.TheVariants as ty
-use Rattle.srb_terms.specs.declared.world.World.{World}
-use Rattle.srb_shapes.specs.Lineages.{Lineage, lineage_at}
+use Rattle.srb_shapes.specs.Lineages.{Lineage}
 use Rattle.srb_shapes.specs.Parts.{parts_of}
 use Rattle.srb_types.specs.Shown.{shown}
 use Rattle.srb_members.specs.Members as members
 use Rattle.srb_members.specs.Members.{member_of}
+use Rattle.srb_members.specs.Views.{Members}
 use Rattle.srb_calls.specs.declared.args.Args.{Args}
 use Rattle.srb_calls.specs.declared.args.CallEnd.{CallEnd}
 use Rattle.srb_calls.specs.declared.args.Recv.{Recv}
@@ -84,18 +84,18 @@ with_member L recv args end part m = record {
   errors = part_errors L part recv args m end.errors;
 }
 
-unfoldable pub with_part : World → Recv → Args → CallEnd → Ty → CallEnd
-with_part w recv args end part = with_member (lineage_at w) recv args end part (member_of w recv.name part)
+unfoldable pub with_part : Members → Recv → Args → CallEnd → Ty → CallEnd
+with_part k recv args end part = with_member k.lineage recv args end part (member_of k recv.name part)
 
 -- each part answers by itself
-abbrev pub with_parts : World → Recv → Args → CallEnd → List Ty → CallEnd
-with_parts w recv args end [] = end
-with_parts w recv args end (part ∷ parts) = with_parts w recv args (with_part w recv args end part) parts
+abbrev pub with_parts : Members → Recv → Args → CallEnd → List Ty → CallEnd
+with_parts k recv args end [] = end
+with_parts k recv args end (part ∷ parts) = with_parts k recv args (with_part k recv args end part) parts
 
 -- without any part: `T.noreturn` as a receiver
 abbrev pub no_part : Args → CallEnd
 no_part args = record { result = ty.Never; block = replicate (names_of args.block) ty.Never; errors = [] }
 
 -- what a call answers
-unfoldable pub call_of : World → Recv → Args → CallEnd
-call_of w recv args = with_parts w recv args (no_part args) (in_shown_order (parts_of recv.ty))
+unfoldable pub call_of : Members → Recv → Args → CallEnd
+call_of k recv args = with_parts k recv args (no_part args) (in_shown_order (parts_of recv.ty))

@@ -5,6 +5,7 @@ ghost use Rattle.srb_calls.specs.Letters.{put_in};
 ghost use Rattle.srb_calls.specs.Messages.{diag, missing_method, untyped_receiver};
 ghost use Rattle.srb_types.specs.Shown.{shown};
 ghost use Rattle.srb_calls.specs.Calls as spec;
+ghost use Rattle.srb_members.specs.Views.{members_at};
 ghost use Rattle.srb_calls.specs.Order.{in_rank, in_shown_order};
 ghost use Rattle.srb_calls.specs.Order as order;
 ghost use Rattle.srb_members.specs.Members.{seen_member};
@@ -232,7 +233,7 @@ fn with_part(
     end: CallEnd,
     part: &Ty,
 ) -> Result<CallEnd, NoMemory>
-    ensures { IfOk result (λ e. e ≡ spec.with_part w.now recv.now args.now end part.now) }
+    ensures { IfOk result (λ e. e ≡ spec.with_part (members_at w.now) recv.now args.now end part.now) }
 {
     with_member(
         alloc,
@@ -254,7 +255,7 @@ fn with_parts(
     end: CallEnd,
     parts: &[Ty],
 ) -> Result<CallEnd, NoMemory>
-    ensures { IfOk result (λ e. e ≡ spec.with_parts w.now recv.now args.now end parts.now) }
+    ensures { IfOk result (λ e. e ≡ spec.with_parts (members_at w.now) recv.now args.now end parts.now) }
 {
     let mut end = end;
     'parts: for part in parts {
@@ -273,7 +274,7 @@ fn with_placed(
     part: &Ty,
     place: usize,
 ) -> Result<CallEnd, NoMemory>
-    ensures { IfOk result (λ e. e ≡ (if nat_eq (order.rank part.now) place then spec.with_part w.now recv.now args.now end part.now else end)) }
+    ensures { IfOk result (λ e. e ≡ (if nat_eq (order.rank part.now) place then spec.with_part (members_at w.now) recv.now args.now end part.now else end)) }
 {
     if rank(alloc, part)? == place {
         with_part(alloc, w, recv, args, end, part)
@@ -292,7 +293,7 @@ fn with_rank(
     parts: &[Ty],
     place: usize,
 ) -> Result<CallEnd, NoMemory>
-    ensures { IfOk result (λ e. e ≡ spec.with_parts w.now recv.now args.now end (in_rank place parts.now)) }
+    ensures { IfOk result (λ e. e ≡ spec.with_parts (members_at w.now) recv.now args.now end (in_rank place parts.now)) }
 {
     let mut end = end;
     'parts: for part in parts {
@@ -311,7 +312,7 @@ fn in_order(
     end: CallEnd,
     parts: &[Ty],
 ) -> Result<CallEnd, NoMemory>
-    ensures { IfOk result (λ e. e ≡ spec.with_parts w.now recv.now args.now end (in_shown_order parts.now)) }
+    ensures { IfOk result (λ e. e ≡ spec.with_parts (members_at w.now) recv.now args.now end (in_shown_order parts.now)) }
 {
     if !has_both(parts) {
         return with_parts(alloc, w, recv, args, end, parts);
@@ -337,7 +338,7 @@ fn no_part(alloc: Global, args: &Args) -> Result<CallEnd, NoMemory>
 /// order. The types of receiver and arguments are in normal form.
 #[tactic(auto, unfolding(crate::specs::Calls::call_of))]
 pub fn call(alloc: Global, w: &World, recv: &Recv, args: &Args) -> Result<CallEnd, NoMemory>
-    ensures { IfOk result (λ e. e ≡ spec.call_of w.now recv.now args.now) }
+    ensures { IfOk result (λ e. e ≡ spec.call_of (members_at w.now) recv.now args.now) }
 {
     in_order(alloc, w, recv, args, no_part(alloc, args)?, parts(&recv.ty))
 }

@@ -1,6 +1,7 @@
 ghost use Rattle.std.specs.Prelude.{◌≡◌};
 ghost use Rattle.std.specs.Option.{option_copied};
 ghost use Rattle.srb_members.specs.Members as spec;
+ghost use Rattle.srb_members.specs.Views.{members_at};
 
 use crate::instances::{of_instance, of_members};
 use crate::objects::{initialize, of_class_object};
@@ -52,7 +53,7 @@ fn made<'w>(found: Option<&'w Method>) -> Member<'w>
 
 // The method of a class object, and else the `initialize` that `new` calls.
 fn of_object<'w>(w: &'w World, name: &Name, c: &Name) -> Member<'w>
-    ensures { spec.seen_member result ≡ spec.declared_or_made (spec.of_class_object w.now name.now c.now) (spec.initialize_of w.now name.now c.now) }
+    ensures { spec.seen_member result ≡ spec.declared_or_made (spec.of_class_object (members_at w.now) name.now c.now) (spec.initialize_of (members_at w.now) name.now c.now) }
 {
     match of_class_object(w, name.as_str(), c) {
         Some(method) => Member::Declared(method),
@@ -63,7 +64,7 @@ fn of_object<'w>(w: &'w World, name: &Name, c: &Name) -> Member<'w>
 /// What `name` calls on `part`, which is one part of a type in normal form. It takes no memory.
 #[tactic(auto, unfolding(crate::specs::Members::member_of))]
 pub fn look_up<'w>(w: &'w World, part: &Ty, name: &Name) -> Member<'w>
-    ensures { spec.seen_member result ≡ spec.member_of w.now name.now part.now }
+    ensures { spec.seen_member result ≡ spec.member_of (members_at w.now) name.now part.now }
 {
     match part {
         Ty::Untyped => Member::Free,
@@ -80,7 +81,7 @@ pub fn look_up<'w>(w: &'w World, part: &Ty, name: &Name) -> Member<'w>
 /// The method that `name` calls on `part`, which is one part of a type in normal form: for `new` without a method of that name the
 /// `initialize` of the class. `Free` comes exactly for `T.untyped`, `Missing` exactly where there is no such method. It takes no memory.
 pub fn find<'w>(w: &'w World, part: &Ty, name: &Name) -> Found<'w>
-    ensures { spec.seen_found result ≡ spec.found_of (spec.member_of w.now name.now part.now) }
+    ensures { spec.seen_found result ≡ spec.found_of (spec.member_of (members_at w.now) name.now part.now) }
 {
     match look_up(w, part, name) {
         Member::Declared(method) => Found::One(method),

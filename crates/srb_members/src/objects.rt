@@ -4,7 +4,9 @@ ghost use Rattle.std.specs.Prelude.{◌≡◌, [], None, if◌then◌else◌};
 ghost use Rattle.std.specs.List.{filter};
 ghost use Rattle.std.specs.Option.{option_copied, option_or, unwrap_or};
 ghost use Rattle.srb_terms.specs.Worlds.{extended_at};
+ghost use Rattle.srb_shapes.specs.Lineages.{is_class};
 ghost use Rattle.srb_members.specs.Members as spec;
+ghost use Rattle.srb_members.specs.Views.{members_at};
 
 use crate::instances::in_lin;
 use crate::known::method;
@@ -22,7 +24,7 @@ fn first<'w>(a: Option<&'w Method>, b: Option<&'w Method>) -> Option<&'w Method>
 
 // The method along the linearizations of some modules. Those of a later module come first.
 fn in_modules<'w>(w: &'w World, name: &str, modules: &Names) -> Option<&'w Method>
-    ensures { option_copied result ≡ spec.in_modules w.now name.now modules.now }
+    ensures { option_copied result ≡ spec.in_modules (members_at w.now) name.now modules.now }
 {
     let mut found = None;
     let mut at = modules;
@@ -35,7 +37,7 @@ fn in_modules<'w>(w: &'w World, name: &str, modules: &Names) -> Option<&'w Metho
 
 // The method that the modules have by which a class object is extended.
 fn in_extended<'w>(w: &'w World, name: &str, c: &Name) -> Option<&'w Method>
-    ensures { option_copied result ≡ spec.in_modules w.now name.now (unwrap_or (extended_at w.now c.now) []) }
+    ensures { option_copied result ≡ spec.in_modules (members_at w.now) name.now (unwrap_or (extended_at w.now c.now) []) }
 {
     match w.extended(c) {
         None => None,
@@ -45,7 +47,7 @@ fn in_extended<'w>(w: &'w World, name: &str, c: &Name) -> Option<&'w Method>
 
 // The method that the class object of one class or module has of its own.
 fn of_own<'w>(w: &'w World, name: &str, c: &Name) -> Option<&'w Method>
-    ensures { option_copied result ≡ spec.of_own w.now name.now c.now }
+    ensures { option_copied result ≡ spec.of_own (members_at w.now) name.now c.now }
 {
     match method(w, c, true, name) {
         Some(found) => Some(found),
@@ -54,7 +56,7 @@ fn of_own<'w>(w: &'w World, name: &str, c: &Name) -> Option<&'w Method>
 }
 
 fn is_class(kind: Option<Kind>) -> bool
-    ensures { result ≡ spec.is_class kind }
+    ensures { result ≡ is_class kind }
 {
     match kind {
         Some(Kind::Class) => true,
@@ -66,7 +68,7 @@ fn is_class(kind: Option<Kind>) -> bool
 
 // The method that the class object of another class has of its own.
 fn of_other<'w>(w: &'w World, name: &str, c: &Name, d: &Name) -> Option<&'w Method>
-    ensures { option_copied result ≡ (if spec.is_other_class w.now c.now d.now then spec.of_own w.now name.now d.now else None) }
+    ensures { option_copied result ≡ (if spec.is_other_class (members_at w.now) c.now d.now then spec.of_own (members_at w.now) name.now d.now else None) }
 {
     if d.as_str() != c.as_str() && is_class(w.kind(d)) {
         of_own(w, name, d)
@@ -77,7 +79,7 @@ fn of_other<'w>(w: &'w World, name: &str, c: &Name, d: &Name) -> Option<&'w Meth
 
 // The method that the class object of the first other class among some names has of its own.
 fn of_others<'w>(w: &'w World, name: &str, c: &Name, names: &Names) -> Option<&'w Method>
-    ensures { option_copied result ≡ spec.of_owns w.now name.now (filter (spec.is_other_class w.now c.now) names.now) }
+    ensures { option_copied result ≡ spec.of_owns (members_at w.now) name.now (filter (spec.is_other_class (members_at w.now) c.now) names.now) }
 {
     let mut at = names;
     while let Some((d, rest)) = at.split() {
@@ -95,7 +97,7 @@ fn of_others<'w>(w: &'w World, name: &str, c: &Name, names: &Names) -> Option<&'
 
 // The method of class objects of the other classes that a class inherits from.
 fn inherited<'w>(w: &'w World, name: &str, c: &Name) -> Option<&'w Method>
-    ensures { option_copied result ≡ spec.of_owns w.now name.now (filter (spec.is_other_class w.now c.now) (spec.lin_of w.now c.now)) }
+    ensures { option_copied result ≡ spec.of_owns (members_at w.now) name.now (filter (spec.is_other_class (members_at w.now) c.now) (spec.lin_of (members_at w.now) c.now)) }
 {
     match w.lin(c) {
         None => None,
@@ -105,7 +107,7 @@ fn inherited<'w>(w: &'w World, name: &str, c: &Name) -> Option<&'w Method>
 
 // The method of `Class` or `Module`.
 fn of_kind<'w>(w: &'w World, name: &str, kind: Option<Kind>) -> Option<&'w Method>
-    ensures { option_copied result ≡ spec.of_kind w.now name.now kind }
+    ensures { option_copied result ≡ spec.of_kind (members_at w.now) name.now kind }
 {
     match kind {
         Some(Kind::Class) => in_lin(w, name, "Class"),
@@ -117,7 +119,7 @@ fn of_kind<'w>(w: &'w World, name: &str, kind: Option<Kind>) -> Option<&'w Metho
 
 /// The method of the class object of a class or module.
 pub(crate) fn of_class_object<'w>(w: &'w World, name: &str, c: &Name) -> Option<&'w Method>
-    ensures { option_copied result ≡ spec.of_class_object w.now name.now c.now }
+    ensures { option_copied result ≡ spec.of_class_object (members_at w.now) name.now c.now }
 {
     match of_own(w, name, c) {
         Some(found) => Some(found),
@@ -130,7 +132,7 @@ pub(crate) fn of_class_object<'w>(w: &'w World, name: &str, c: &Name) -> Option<
 
 /// The `initialize` that `new` calls on the class object of a class.
 pub(crate) fn initialize<'w>(w: &'w World, name: &str, c: &Name) -> Option<&'w Method>
-    ensures { option_copied result ≡ spec.initialize_of w.now name.now c.now }
+    ensures { option_copied result ≡ spec.initialize_of (members_at w.now) name.now c.now }
 {
     if name == "new" && is_class(w.kind(c)) {
         in_lin(w, "initialize", c.as_str())

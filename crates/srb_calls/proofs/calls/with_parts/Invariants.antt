@@ -1,7 +1,8 @@
 use Rattle.std.proofs.Common.{◌≡◌, drop}
 use Rattle.srb_calls.specs.Calls as spec
+use Rattle.srb_members.specs.Views.{members_at}
 use Rattle.srb_calls.proofs.calls.with_parts.Given as goal
 
 abbrev pub invariant-parts : goal.invariant-parts
 invariant-parts l =
-    spec.with_parts l.w l.recv l.args l.end (drop l.part-index l.parts) ≡ spec.with_parts l.w l.recv l.args l.fn.end l.parts
+    spec.with_parts (members_at l.w) l.recv l.args l.end (drop l.part-index l.parts) ≡ spec.with_parts (members_at l.w) l.recv l.args l.fn.end l.parts
