@@ -10,20 +10,18 @@ use Rattle.srb_terms.specs.Worlds.{has_colon, inner_at, joined, kind_at, own_nam
 use Rattle.srb_terms.specs.declared.fact.Fact.{Fact}
 use Rattle.srb_terms.specs.declared.fact.Kind.{Kind}
 use Rattle.srb_terms.specs.declared.fact.Kind.TheVariants as kind
-use Rattle.srb_terms.specs.declared.ty.Ty.{Ty}
 use Rattle.srb_terms.specs.declared.world.World.{World}
 use Rattle.srb_rules.specs.declared.link.Link.{Link}
 use Rattle.srb_rules.specs.FullNames.{BASIC_OBJECT}
 use Rattle.srb_rules.specs.Kinds.{is_body, is_class, kind_of, within_of}
 use Rattle.srb_rules.specs.Lookup.{looked_up}
 use Rattle.srb_rules.specs.Parents.{Reference, alone_by, deciding, extended_in, extended_of, inherited, inherited_by, links, mixed_by, mixed_in, parent_named, superclass_by, superclass_of, link_in}
-use Rattle.srb_rules.specs.Values.{is_value, last_type, value_type}
 use Rattle.srb_table.specs.Names.{KnowsNames}
-use Rattle.srb_table.specs.Steps.{deciding_after, entry_after, extended_after, extended_entry, facts_of, inherited_at, inner_after, kind_after, lin_entry, links_after, mixed_at, parent_at, super_entry, unread, value_after}
-use Rattle.srb_table.proofs.Passes.{by_files, deciding-told, entries-told, extended-told, inner-told, kinds-told, links-told, values-told}
+use Rattle.srb_table.specs.Steps.{deciding_after, entry_after, extended_after, extended_entry, facts_of, inherited_at, inner_after, kind_after, lin_entry, links_after, mixed_at, parent_at, super_entry}
+use Rattle.srb_table.proofs.Passes.{by_files, deciding-told, entries-told, extended-told, inner-told, kinds-told, links-told}
 
 -- a pass over the first file and then over the others
-two-passes : {X : Type 0} (step : X → Fact → X) (old mid new : X) (first : List Fact) (files : List (List Fact))
+pub two-passes : {X : Type 0} (step : X → Fact → X) (old mid new : X) (first : List Fact) (files : List (List Fact))
     → mid ≡ fold step old first → new ≡ fold (fold step) mid files → new ≡ fold step old (facts_of first files)
 two-passes step old mid new first files one two =
     two ∙ ap (λ m. fold (fold step) m files) one ∙ by_files step old (first ∷ files)
@@ -125,16 +123,6 @@ module _ (w : World) (first : List Fact) (files : List (List Fact)) (known : Kno
       entry-staged (extended_entry w extends) old mid new empty one two
       (λ d h. ap (λ t. cond t (Some (unwrap_or (extends d) [])) None) (ap is_body (known.kinds d) ∙ h)) c
       ∙ (λ i. cond (is_body (known.kinds c i)) (Some (right c i)) None)
-
-  pub staged-values : (old mid new : List ℕ → Option Ty) → ((c : List ℕ) → old c ≡ None)
-      → ((c : List ℕ) → mid c ≡ fold (value_after w c) (old c) first)
-      → ((c : List ℕ) → new c ≡ fold (fold (value_after w c)) (mid c) files)
-      → (c : List ℕ) → new c ≡ value_type unread (facts_of first files) c
-  unfolding value_type
-  staged-values old mid new empty one two c =
-      two-passes (value_after w c) None (mid c) (new c) first files (one c ∙ ap (λ o. fold (value_after w c) o first) (empty c)) (two c)
-      ∙ values-told w c (facts_of first files)
-      ∙ ap (λ k. cond (is_value k) (last_type unread c (facts_of first files)) None) (known.kinds c)
 
   pub staged-lins : (lins : List ℕ → Option (List (List ℕ))) → ((c : List ℕ) → unwrap_or (lins c) (c ∷ []) ≡ lin_of (counted (links (facts_of first files))) c)
       → (old mid new : List ℕ → Option (List (List ℕ))) → ((c : List ℕ) → old c ≡ None)

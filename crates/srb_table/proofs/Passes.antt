@@ -5,19 +5,15 @@ use Rattle.std.proofs.lemmas.List.{append_assoc, append-nil}
 use Rattle.std.proofs.lemmas.Slice.Eq.{bytes_eq-Decides}
 use Rattle.std.specs.List.{cons_option, filter_map, fold, list_any}
 use Rattle.std.specs.Option.{option_or}
-use Rattle.srb_terms.specs.Worlds.{kind_at}
 use Rattle.srb_terms.specs.declared.fact.Fact.{Fact}
 use Rattle.srb_terms.specs.declared.fact.Fact.TheVariants.{Scope, Parent, Value, Method, Ivar}
 use Rattle.srb_terms.specs.declared.fact.How.TheVariants.{Super, Include, Extend}
 use Rattle.srb_terms.specs.declared.fact.Kind.{Kind}
 use Rattle.srb_terms.specs.declared.fact.Kind.TheVariants as kind
-use Rattle.srb_terms.specs.declared.ty.Ty.{Ty}
-use Rattle.srb_terms.specs.declared.world.World.{World}
 use Rattle.srb_rules.specs.declared.link.Link.{Link}
 use Rattle.srb_rules.specs.Kinds.{body_kind, is_body, is_value_of, kind_of}
 use Rattle.srb_rules.specs.Parents.{Reference, extended_in, first_superclass, link_in}
-use Rattle.srb_rules.specs.Values.{given_type, is_value, last_type}
-use Rattle.srb_table.specs.Steps.{all_facts, appended, deciding_after, entry_after, extended_after, inner_after, kind_after, links_after, listed, unread, value_after, with_body}
+use Rattle.srb_table.specs.Steps.{all_facts, appended, deciding_after, entry_after, extended_after, inner_after, kind_after, links_after, listed, with_body}
 
 -- ---- files
 
@@ -147,7 +143,7 @@ inner-told name fs =
 
 -- ---- superclasses that are written
 
-or-or : {X : Type 0} (a b c : Option X) → option_or (option_or a b) c ≡ option_or a (option_or b c)
+pub or-or : {X : Type 0} (a b c : Option X) → option_or (option_or a b) c ≡ option_or a (option_or b c)
 or-or None b c = refl
 or-or (Some x) b c = refl
 
@@ -155,7 +151,7 @@ deciding-one : (b : Bool) (old found rest : Option (List ℕ)) → option_or (co
 deciding-one true old found rest = or-or old found rest
 deciding-one false old found rest = refl
 
-at-nothing : {X : Type 0} (a : Option X) → a ≡ option_or a None
+pub at-nothing : {X : Type 0} (a : Option X) → a ≡ option_or a None
 at-nothing None = refl
 at-nothing (Some x) = refl
 
@@ -291,56 +287,3 @@ extended-from mixes c old (Ivar owner scope meta m given ∷ fs) = extended-from
 
 pub extended-told : (mixes : Reference) (c : List ℕ) (fs : List Fact) → unwrap_or (fold (extended_after mixes c) None fs) [] ≡ filter_map (extended_in mixes c) fs
 extended-told mixes c fs = extended-from mixes c None fs
-
--- ---- value constants
-
-value-one : (w : World) (name c : List ℕ) (t : Ty) (old later : Option Ty)
-    → cond (is_value (kind_at w c)) (option_or later (cond (bytes_eq name c) (cond (is_value (kind_at w name)) (Some t) old) old)) (cond (bytes_eq name c) (cond (is_value (kind_at w name)) (Some t) old) old)
-    ≡ cond (is_value (kind_at w c)) (option_or (option_or later (cond (bytes_eq name c) (Some t) None)) old) old
-value-one w name c t old later = by (bytes_eq name c) (bytes_eq-Decides name c).0
-  where
-    at : (v : Bool) (later : Option Ty) → cond v (option_or later (cond v (Some t) old)) (cond v (Some t) old) ≡ cond v (option_or (option_or later (Some t)) old) old
-    at true None = refl
-    at true (Some l) = refl
-    at false later = refl
-
-    off : (v : Bool) (later : Option Ty) → cond v (option_or later old) old ≡ cond v (option_or (option_or later None) old) old
-    off true None = refl
-    off true (Some l) = refl
-    off false later = refl
-
-    by : (b : Bool) → (b ≡ true → name ≡ c)
-        → cond (is_value (kind_at w c)) (option_or later (cond b (cond (is_value (kind_at w name)) (Some t) old) old)) (cond b (cond (is_value (kind_at w name)) (Some t) old) old)
-        ≡ cond (is_value (kind_at w c)) (option_or (option_or later (cond b (Some t) None)) old) old
-    by true same =
-        (λ i. cond (is_value (kind_at w c)) (option_or later (cond (is_value (kind_at w (same refl i))) (Some t) old)) (cond (is_value (kind_at w (same refl i))) (Some t) old))
-        ∙ at (is_value (kind_at w c)) later
-    by false same = off (is_value (kind_at w c)) later
-
-skip : (v : Bool) (later old : Option Ty) → cond v (option_or later old) old ≡ cond v (option_or (option_or later None) old) old
-skip true None old = refl
-skip true (Some l) old = refl
-skip false later old = refl
-
-values-from : (w : World) (c : List ℕ) (old : Option Ty) (fs : List Fact)
-    → fold (value_after w c) old fs ≡ cond (is_value (kind_at w c)) (option_or (last_type unread c fs) old) old
-values-from w c old [] = at-end (is_value (kind_at w c))
-  where
-    at-end : (v : Bool) → old ≡ cond v old old
-    at-end true = refl
-    at-end false = refl
-values-from w c old (Value name scope given ∷ fs) =
-    values-from w c (cond (bytes_eq name c) (cond (is_value (kind_at w name)) (Some (given_type unread scope given)) old) old) fs
-    ∙ value-one w name c (given_type unread scope given) old (last_type unread c fs)
-values-from w c old (Scope name kind ∷ fs) = values-from w c old fs ∙ skip (is_value (kind_at w c)) (last_type unread c fs) old
-values-from w c old (Parent of scope path how ∷ fs) = values-from w c old fs ∙ skip (is_value (kind_at w c)) (last_type unread c fs) old
-values-from w c old (Method owner scope meta m params sig ∷ fs) = values-from w c old fs ∙ skip (is_value (kind_at w c)) (last_type unread c fs) old
-values-from w c old (Ivar owner scope meta m given ∷ fs) = values-from w c old fs ∙ skip (is_value (kind_at w c)) (last_type unread c fs) old
-
-pub values-told : (w : World) (c : List ℕ) (fs : List Fact) → fold (value_after w c) None fs ≡ cond (is_value (kind_at w c)) (last_type unread c fs) None
-values-told w c fs = values-from w c None fs ∙ at-end (is_value (kind_at w c)) (last_type unread c fs)
-  where
-    at-end : (v : Bool) (last : Option Ty) → cond v (option_or last None) None ≡ cond v last None
-    at-end true None = refl
-    at-end true (Some t) = refl
-    at-end false last = refl

@@ -1,3 +1,4 @@
 pub mod Names
 pub mod Circular
+pub mod Members
 pub mod Steps

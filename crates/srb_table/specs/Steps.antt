@@ -3,11 +3,12 @@ use Rattle.std.specs.Prelude.{ℕ, Bool, true, false, ◌&&◌, List, [], ◌∷
 use Rattle.std.specs.Option.{option_or, unwrap_or}
 use Rattle.srb_terms.specs.Worlds.{kind_at}
 use Rattle.srb_terms.specs.declared.fact.Fact.{Fact}
-use Rattle.srb_terms.specs.declared.fact.Fact.TheVariants.{Scope, Parent, Value}
+use Rattle.srb_terms.specs.declared.fact.Fact.TheVariants.{Scope, Parent, Value, Method, Ivar}
 use Rattle.srb_terms.specs.declared.fact.How.{How}
 use Rattle.srb_terms.specs.declared.fact.How.TheVariants.{Super, Include, Extend}
 use Rattle.srb_terms.specs.declared.fact.Kind.{Kind}
 use Rattle.srb_terms.specs.declared.fact.Kind.TheVariants as kind
+use Rattle.srb_terms.specs.declared.ty.Method as table
 use Rattle.srb_terms.specs.declared.ty.Ty.{Ty}
 use Rattle.srb_terms.specs.declared.world.World.{World}
 use Rattle.srb_rules.specs.declared.link.Link.{Link}
@@ -15,8 +16,9 @@ use Rattle.srb_rules.specs.declared.position.Position.TheVariants as position
 use Rattle.srb_rules.specs.Kinds.{is_body}
 use Rattle.srb_rules.specs.Parents.{Reference, inherited_by, link_in, mixed_by, superclass_by}
 use Rattle.srb_rules.specs.Standing.{resolved_at}
-use Rattle.srb_rules.specs.Values.{Reads, given_type, is_value}
-use Rattle.srb_terms.specs.declared.ty.Ty.TheVariants as ty
+use Rattle.srb_rules.specs.Values.{given_type, is_value}
+use Rattle.srb_sig.specs.Views.{View, view_at}
+use Rattle.srb_table.specs.Members.{if_owned, method_given, reads_by}
 
 -- the facts of some files as one list
 abbrev pub all_facts : List (List Fact) → List Fact
@@ -103,15 +105,24 @@ extended_entry w extends c = if is_body (kind_at w c) then Some (unwrap_or (exte
 
 -- ---- value constants
 
--- a type that is written out is not read yet
-abbrev pub unread : Reads
-unread scope text = ty.Untyped
-
 -- the type of the value constant c: the last one counts
 abbrev pub value_after : World → List ℕ → Option Ty → Fact → Option Ty
 value_after w c old (Value name scope given) =
-    if bytes_eq name c then (if is_value (kind_at w name) then Some (given_type unread scope given) else old) else old
+    if bytes_eq name c then (if is_value (kind_at w name) then Some (given_type (reads_by (view_at w)) scope given) else old) else old
 value_after w c old _ = old
+
+-- ---- methods and instance variables, where the table knows all names
+
+-- the method of an owner: the last one counts
+abbrev pub method_after : View → Bool → List ℕ → List ℕ → Option table.Method → Fact → Option table.Method
+method_after v meta owner name old (Method of scope object called shapes sig) =
+    if_owned owner meta name of object called (method_given v of scope called shapes sig) old
+method_after v meta owner name old _ = old
+
+-- the type of an instance variable of an owner: the last one counts
+abbrev pub ivar_after : View → Bool → List ℕ → List ℕ → Option Ty → Fact → Option Ty
+ivar_after v meta owner name old (Ivar of scope object called given) = if_owned owner meta name of object called (reads_by v scope given) old
+ivar_after v meta owner name old _ = old
 
 -- ---- circles
 

@@ -5,9 +5,8 @@ ghost use Rattle.srb_rules.specs.Circles.{circle_of};
 ghost use Rattle.srb_rules.specs.Kinds.{kind_of};
 ghost use Rattle.srb_rules.specs.Links.{circular_links};
 ghost use Rattle.srb_rules.specs.Parents as parents;
-ghost use Rattle.srb_rules.specs.Values.{value_type};
 ghost use Rattle.srb_table.specs.Names.{KnowsNames};
-ghost use Rattle.srb_table.specs.Steps.{facts_of, unread};
+ghost use Rattle.srb_table.specs.Steps.{facts_of};
 ghost use Rattle.srb_terms.specs.Worlds.{has_colon, inner_at, is_among, joined};
 ghost use Rattle.srb_terms.specs.declared.fact.Fact as fact_type;
 
@@ -19,11 +18,10 @@ use crate::inner::{Inner, add_inner, add_inner_of_file};
 use crate::kinds::{Kinds, add_kinds, add_kinds_of_file};
 use crate::links::{add_links, add_links_of_file};
 use crate::superclasses::{add_superclasses, add_superclasses_of_file};
-use crate::values::{add_values, add_values_of_file};
 use indexmap::IndexMap;
 use srb_rules::Link;
 use srb_summary::Summary;
-use srb_terms::{Fact, Items, Name, Names, NoMemory, Ty, World};
+use srb_terms::{Fact, Items, Name, Names, NoMemory, World};
 use std::alloc::Global;
 
 /// The kinds of all names.
@@ -135,20 +133,5 @@ pub fn all_extended(
     let mut table = IndexMap::new(alloc);
     add_extended_of_file(alloc, w, extends, &mut table, first)?;
     add_extended(alloc, w, extends, &mut table, files)?;
-    Ok(table)
-}
-
-/// The types of all value constants.
-pub fn all_values(
-    alloc: Global,
-    w: &World,
-    first: &[Fact],
-    files: &[Summary],
-) -> Result<IndexMap<Name, Ty>, NoMemory>
-    ensures { IfOk result (λ t. KnowsNames w.now (facts_of first.now files.now) → (c : List ℕ) → get bytes_eq t c ≡ value_type unread (facts_of first.now files.now) c) }
-{
-    let mut table = IndexMap::new(alloc);
-    add_values_of_file(w, &mut table, first)?;
-    add_values(w, &mut table, files)?;
     Ok(table)
 }

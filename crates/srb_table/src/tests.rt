@@ -1,7 +1,10 @@
 // The worlds of small projects and of a large one.
 use crate::world::world_of;
 use srb_summary::Summary;
-use srb_terms::{Fact, Given, How, Items, Kind, Name, Names, NoMemory, Ty, World};
+use srb_terms::{
+    Boxed, Fact, Given, How, Items, Kind, Label, Name, Names, NoMemory, NodeKind, Outline,
+    ParamKind, ParamShape, Shapes, SigText, Ty, TyText, Words, World,
+};
 use std::alloc::Global;
 
 fn name(alloc: Global, text: &str) -> Result<Name, NoMemory> {
@@ -250,5 +253,162 @@ fn the_first_superclass_decides(rt: HostRuntime) -> Result<(), NoMemory> {
     assert!(rt; a.as_str() == "B");
     let x = lin(alloc, &world, "X")?;
     assert!(rt; x.as_str() == "X String Object Kernel BasicObject ");
+    Ok(())
+}
+
+// A node with one part, or with none.
+fn node(
+    alloc: Global,
+    kind: NodeKind,
+    words: &str,
+    part: Option<Outline>,
+) -> Result<Outline, NoMemory> {
+    let mut parts = Items::new(alloc);
+    match part {
+        None => {}
+        Some(part) => parts.push(part)?,
+    }
+    Ok(Outline {
+        label: Label {
+            kind,
+            words: Words::from_str(alloc, words)?,
+        },
+        parts: Boxed::new(alloc, parts)?,
+    })
+}
+
+fn path(alloc: Global, class: &str) -> Result<Outline, NoMemory> {
+    node(alloc, NodeKind::Constant, class, None)
+}
+
+// `sig { returns(CLASS) }`
+fn sig(alloc: Global, class: &str) -> Result<SigText, NoMemory> {
+    let class = path(alloc, class)?;
+    let brackets = node(alloc, NodeKind::Brackets, "", Some(class))?;
+    let returns = node(alloc, NodeKind::Call, "returns", Some(brackets))?;
+    let body = node(alloc, NodeKind::Body, "", Some(returns))?;
+    let block = node(alloc, NodeKind::Block, "", Some(body))?;
+    Ok(SigText {
+        tree: node(alloc, NodeKind::Call, "sig", Some(block))?,
+    })
+}
+
+// A method of C with this result, of instances or of the class object.
+fn add_method(
+    alloc: Global,
+    facts: &mut Items<Fact>,
+    meta: bool,
+    text: &str,
+    params: Shapes,
+    class: &str,
+) -> Result<(), NoMemory> {
+    facts.push(Fact::Method {
+        owner: name(alloc, "C")?,
+        scope: names(alloc, &["C"])?,
+        meta,
+        name: name(alloc, text)?,
+        params,
+        sig: Some(sig(alloc, class)?),
+    })
+}
+
+fn add_ivar(
+    alloc: Global,
+    facts: &mut Items<Fact>,
+    text: &str,
+    class: &str,
+) -> Result<(), NoMemory> {
+    facts.push(Fact::Ivar {
+        owner: name(alloc, "C")?,
+        scope: names(alloc, &["C"])?,
+        meta: false,
+        name: name(alloc, text)?,
+        given: TyText {
+            tree: path(alloc, class)?,
+        },
+    })
+}
+
+fn one_parameter(alloc: Global) -> Result<Shapes, NoMemory> {
+    let mut shapes = Items::new(alloc);
+    shapes.push(ParamShape {
+        name: name(alloc, "a")?,
+        kind: ParamKind::Required,
+    })?;
+    Ok(shapes)
+}
+
+// class C has a method m twice, one of the class object, and one whose signature leaves its parameter out; it has a variable x twice
+fn members_file(alloc: Global) -> Result<Summary, NoMemory> {
+    let mut facts = Items::new(alloc);
+    add_scope(alloc, &mut facts, "C", Kind::Class)?;
+    add_method(alloc, &mut facts, false, "m", Items::new(alloc), "Integer")?;
+    add_method(alloc, &mut facts, false, "m", Items::new(alloc), "String")?;
+    add_method(alloc, &mut facts, true, "m", Items::new(alloc), "Integer")?;
+    add_method(
+        alloc,
+        &mut facts,
+        false,
+        "n",
+        one_parameter(alloc)?,
+        "String",
+    )?;
+    add_ivar(alloc, &mut facts, "x", "String")?;
+    add_ivar(alloc, &mut facts, "x", "Integer")?;
+    add_ivar(alloc, &mut facts, "y", "Other")?;
+    Summary::of(alloc, facts)
+}
+
+// The class of a type, where it is one.
+fn told(ty: Option<&Ty>) -> &str {
+    match ty {
+        Some(Ty::Class(class)) => class.as_str(),
+        Some(Ty::Untyped) => "T.untyped",
+        Some(_) => "?",
+        None => "-",
+    }
+}
+
+// The result of a method of C, where its types are those of a signature.
+fn result<'w>(
+    alloc: Global,
+    world: &'w World,
+    meta: bool,
+    text: &str,
+) -> Result<&'w str, NoMemory> {
+    match world.method(&name(alloc, "C")?, meta, &name(alloc, text)?) {
+        None => Ok("-"),
+        Some(method) => Ok(if method.typed {
+            told(Some(&method.result))
+        } else {
+            "no types"
+        }),
+    }
+}
+
+fn ivar<'w>(alloc: Global, world: &'w World, meta: bool, text: &str) -> Result<&'w str, NoMemory> {
+    Ok(told(world.ivar(&name(alloc, "C")?, meta, &name(alloc, text)?)))
+}
+
+#[test]
+fn the_last_declared_member_counts(rt: HostRuntime) -> Result<(), NoMemory> {
+    let alloc = rt.alloc();
+    let first = base(alloc)?;
+    let world = world_of(alloc, first.as_slice(), &[members_file(alloc)?])?;
+    for (meta, text, want) in [
+        (false, "m", "String"),
+        (true, "m", "Integer"),
+        (false, "n", "no types"),
+        (true, "n", "-"),
+    ] {
+        assert!(rt; result(alloc, &world, meta, text)? == want);
+    }
+    for (meta, text, want) in [
+        (false, "x", "Integer"),
+        (true, "x", "-"),
+        (false, "y", "T.untyped"),
+    ] {
+        assert!(rt; ivar(alloc, &world, meta, text)? == want);
+    }
     Ok(())
 }

@@ -6,7 +6,7 @@ ghost use Rattle.srb_rules.specs.Links.{circular_links, counted};
 ghost use Rattle.srb_rules.specs.Parents as parents;
 ghost use Rattle.srb_rules.specs.Resolves.{lin_in};
 ghost use Rattle.srb_rules.specs.Standing.{Stands};
-ghost use Rattle.srb_table.specs.Names.{AreAncestry, AreLinked, AreTables, HasNoMembers, IsFilled, KnowsNames, TellsValues};
+ghost use Rattle.srb_table.specs.Names.{AreAncestry, AreLinked, AreTables, IsFilled, KnowsNames, TellsMembers};
 ghost use Rattle.srb_table.specs.Steps.{facts_of};
 
 use crate::counted::lins_by;
@@ -14,22 +14,23 @@ use crate::deciding::Deciding;
 use crate::inner::Inner;
 use crate::kinds::Kinds;
 use crate::lins::{add_lins, add_lins_of_file};
+use crate::members::{all_members, with_members};
 use crate::stages::{
     all_circles, all_deciding, all_extended, all_extends, all_inner, all_kinds, all_links,
-    all_superclasses, all_values,
+    all_superclasses,
 };
 use indexmap::IndexMap;
 use srb_ancestors::circular;
 use srb_builtin::table;
 use srb_rules::Link;
 use srb_summary::Summary;
-use srb_terms::{Fact, Items, Name, Names, NoMemory, Ty, World};
+use srb_terms::{Fact, Items, Name, Names, NoMemory, World};
 use std::alloc::Global;
 
 /// The symbol table of the built-in table's facts and then those of the files, in path order.
 pub fn build(alloc: Global, files: &[Summary]) -> Result<World, NoMemory>
     ensures names { IfOk result (λ w. Stands w (facts_of built_in files.now)) }
-    ensures values { IfOk result (λ w. TellsValues w (facts_of built_in files.now)) }
+    ensures members { IfOk result (λ w. TellsMembers w (facts_of built_in files.now)) }
 {
     let first = table(alloc)?;
     world_of(alloc, first.as_slice(), files)
@@ -38,7 +39,16 @@ pub fn build(alloc: Global, files: &[Summary]) -> Result<World, NoMemory>
 /// The symbol table of some facts: those of `first`, and then those of the files in their order.
 pub fn world_of(alloc: Global, first: &[Fact], files: &[Summary]) -> Result<World, NoMemory>
     ensures names { IfOk result (λ w. Stands w (facts_of first.now files.now)) }
-    ensures values { IfOk result (λ w. TellsValues w (facts_of first.now files.now)) }
+    ensures members { IfOk result (λ w. TellsMembers w (facts_of first.now files.now)) }
+{
+    let world = standing(alloc, first, files)?;
+    let members = all_members(alloc, &world, first, files)?;
+    Ok(with_members(world, members))
+}
+
+// The table with all that is told of names, without methods, instance variables and types of value constants.
+fn standing(alloc: Global, first: &[Fact], files: &[Summary]) -> Result<World, NoMemory>
+    ensures { IfOk result (λ w. Stands w (facts_of first.now files.now)) }
 {
     let world = named(alloc, first, files)?;
     let tables = all_tables(alloc, &world, first, files)?;
@@ -47,8 +57,7 @@ pub fn world_of(alloc: Global, first: &[Fact], files: &[Summary]) -> Result<Worl
 
 // The table with the names and their kinds alone.
 fn named(alloc: Global, first: &[Fact], files: &[Summary]) -> Result<World, NoMemory>
-    ensures names { IfOk result (λ w. KnowsNames w (facts_of first.now files.now)) }
-    ensures members { IfOk result HasNoMembers }
+    ensures { IfOk result (λ w. KnowsNames w (facts_of first.now files.now)) }
 {
     let kinds = all_kinds(alloc, first, files)?;
     let inner = all_inner(alloc, first, files)?;
@@ -58,7 +67,6 @@ fn named(alloc: Global, first: &[Fact], files: &[Summary]) -> Result<World, NoMe
 fn with_names(alloc: Global, kinds: Kinds, inner: Inner) -> World
     ensures kinds { result.kinds ≡ kinds }
     ensures inner { result.inner ≡ inner }
-    ensures members { HasNoMembers result }
 {
     World {
         kinds,
@@ -80,7 +88,6 @@ fn with_names(alloc: Global, kinds: Kinds, inner: Inner) -> World
 struct Tables {
     ancestry: Ancestry,
     extended: IndexMap<Name, Names>,
-    values: IndexMap<Name, Ty>,
 }
 
 // The superclasses, and what they and the included modules give.
@@ -107,12 +114,7 @@ fn all_tables(
 {
     let ancestry = all_ancestry(alloc, w, first, files)?;
     let extended = extended(alloc, w, first, files)?;
-    let values = all_values(alloc, w, first, files)?;
-    Ok(Tables {
-        ancestry,
-        extended,
-        values,
-    })
+    Ok(Tables { ancestry, extended })
 }
 
 // The world with these tables.
@@ -120,11 +122,7 @@ fn filled(world: World, tables: Tables) -> World
     ensures { IsFilled world tables result }
 {
     let mut world = world;
-    let Tables {
-        ancestry,
-        extended,
-        values,
-    } = tables;
+    let Tables { ancestry, extended } = tables;
     let Ancestry {
         superclasses,
         linked,
@@ -134,7 +132,6 @@ fn filled(world: World, tables: Tables) -> World
     world.lins = lins;
     world.extended = extended;
     world.circles = circles;
-    world.values = values;
     world
 }
 

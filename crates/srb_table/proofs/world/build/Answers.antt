@@ -1,7 +1,7 @@
 use Rattle.std.proofs.Common.{List, IfOk, ◌∙◌, subst}
 use Rattle.srb_terms.specs.declared.fact.Fact.{Fact}
 use Rattle.srb_rules.specs.Standing.{Stands}
-use Rattle.srb_table.specs.Names.{TellsValues}
+use Rattle.srb_table.specs.Names.{TellsMembers}
 use Rattle.srb_table.specs.Steps.{facts_of}
 use Rattle.srb_table.proofs.world.build.Goals as goal
 
@@ -10,7 +10,7 @@ returns-clause-names c =
     subst (λ (first : List Fact). IfOk c.world_of.result (λ w. Stands w (facts_of first c.args.files.now))) (c.as_slice.ensures ∙ c.in_ok-first.ensures)
     c.world_of.ensures.names
 
-pub returns-clause-values : goal.returns-clause-values
-returns-clause-values c =
-    subst (λ (first : List Fact). IfOk c.world_of.result (λ w. TellsValues w (facts_of first c.args.files.now))) (c.as_slice.ensures ∙ c.in_ok-first.ensures)
-    c.world_of.ensures.values
+pub returns-clause-members : goal.returns-clause-members
+returns-clause-members c =
+    subst (λ (first : List Fact). IfOk c.world_of.result (λ w. TellsMembers w (facts_of first c.args.files.now))) (c.as_slice.ensures ∙ c.in_ok-first.ensures)
+    c.world_of.ensures.members

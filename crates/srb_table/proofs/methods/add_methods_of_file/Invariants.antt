@@ -1,0 +1,12 @@
+use Rattle.std.proofs.Common.{◌≡◌, ℕ, List, drop}
+use Rattle.std.specs.List.{fold}
+use Rattle.srb_sig.specs.Views.{view_at}
+use Rattle.srb_table.specs.Steps.{method_after}
+use Rattle.srb_terms.specs.Worlds.{inner_at}
+use Rattle.srb_table.proofs.methods.add_methods_of_file.Given as goal
+
+abbrev pub invariant-facts : goal.invariant-facts
+invariant-facts l =
+    (owner name : List ℕ)
+    → fold (method_after (view_at l.w) l.meta owner name) (inner_at owner name l.table.entries) (drop l.fact-index l.facts)
+    ≡ fold (method_after (view_at l.w) l.meta owner name) (inner_at owner name l.fn.table.entries) l.facts
