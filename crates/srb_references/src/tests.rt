@@ -1,6 +1,8 @@
 //! References written by hand, in a small table.
 
-use crate::{Reference, references, unresolved};
+use crate::reading::Reading;
+use crate::visit::Visit;
+use crate::{Reference, malformed_types, mentions_of, unresolved};
 use rb_tree::syntax::{Node, Tree};
 use srb_rules::Position;
 use srb_terms::{Diag, Items, Kind, Name, Names, NoMemory, Span, World};
@@ -8,15 +10,16 @@ use std::alloc::Global;
 
 const PLACE: Span = Span { start: 3, end: 5 };
 
-// A program that is the constant `A`.
-fn constant(alloc: Global) -> Result<Tree, NoMemory> {
-    let name = Name::from_str(alloc, "A")?;
+// A program that is one constant.
+fn constant(alloc: Global, name: &str) -> Result<Tree, NoMemory> {
+    let name = Name::from_str(alloc, name)?;
     Tree::new(alloc, Node::Constant { name, span: PLACE })
 }
 
 #[test]
 fn a_constant_refers(rt: HostRuntime) -> Result<(), NoMemory> {
-    let found = references(rt.alloc(), &constant(rt.alloc())?)?;
+    let tree = constant(rt.alloc(), "A")?;
+    let found = mentions_of(rt.alloc(), &tree)?.references;
     assert!(rt; found.len() == 1);
     assert!(rt; matches!(found.get(0), Some(reference) if reference.span == PLACE));
     Ok(())
@@ -89,6 +92,28 @@ fn references_are_checked(rt: HostRuntime) -> Result<(), NoMemory> {
     ] {
         let error = error_of(alloc, &world, names, wants_body)?;
         assert_eq!(rt; error.as_str(), wanted);
+    }
+    Ok(())
+}
+
+// How many errors a constant has as a type expression.
+fn type_errors(alloc: Global, name: &str) -> Result<usize, NoMemory> {
+    let world = table(alloc)?;
+    let tree = constant(alloc, name)?;
+    let part = Visit {
+        reading: Reading::TypeExpression,
+        scope: Names::new(),
+        tree: &tree,
+    };
+    let mut found = Items::new(alloc);
+    malformed_types(alloc, &world, &[part], &mut found)?;
+    Ok(found.len())
+}
+
+#[test]
+fn a_value_constant_is_no_type(rt: HostRuntime) -> Result<(), NoMemory> {
+    for (name, count) in [("C", 0), ("M", 0), ("V", 1), ("Missing", 0)] {
+        assert_eq!(rt; type_errors(rt.alloc(), name)?, count);
     }
     Ok(())
 }
