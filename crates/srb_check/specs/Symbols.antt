@@ -1,4 +1,4 @@
--- What a file declares, the facts of a project, and the errors of a program's declarations, constants and signatures.
+-- What a file declares, the facts of a project, and the errors of a program's declarations, constants, type expressions and signatures.
 use Rattle.std.specs.Prelude.{ℕ, nat_lt, if◌then◌else◌, List, [], ◌++◌, length, map, chars}
 use Rattle.std.specs.Str.{is_utf8}
 use Rattle.srb_terms.specs.Projects.{File}
@@ -11,7 +11,9 @@ use Rattle.srb_builtin.specs.Table.{built_in}
 use Rattle.srb_conflicts.specs.Conflicts.{conflict_errors}
 use Rattle.srb_declarations.specs.Declarations.{declarations_of}
 use Rattle.srb_namer.specs.Facts.{summ_of}
+use Rattle.srb_references.specs.MalformedTypes.{malformed_errors, types_of}
 use Rattle.srb_references.specs.References.{reference_errors, references_of}
+use Rattle.srb_sig.specs.Views.{view_of}
 use Rattle.srb_signatures.specs.Errors.{signature_errors}
 use Rattle.srb_table.specs.Steps.{facts_of}
 use Rattle.srb_check.specs.declared.reading.Reading.{Reading}
@@ -45,9 +47,11 @@ project_facts project = facts_of built_in (map facts_of_file project)
 
 -- ---- errors
 
--- the errors of a program's declarations, of its references to constants that stand for nothing, and of its signatures, at a level
+-- the errors of a program's declarations, of its references to constants that stand for nothing, of its malformed type expressions, and of
+-- its signatures, at a level
 abbrev pub symbol_errors : List Fact → Level → Tree → List Diag
 symbol_errors facts level tree =
     conflict_errors facts (declarations_of tree)
     ++ reference_errors facts (references_of tree)
+    ++ malformed_errors (view_of facts) (types_of tree)
     ++ signature_errors (needs_signatures level) tree

@@ -1,8 +1,10 @@
 ghost use Rattle.std.specs.Prelude.{◌≡◌, ◌+◌, ◌++◌, ℕ, List, IfOk, OnOk};
 ghost use Rattle.srb_conflicts.specs.Conflicts.{conflict_errors};
 ghost use Rattle.srb_declarations.specs.Declarations.{declarations_of};
+ghost use Rattle.srb_references.specs.MalformedTypes.{malformed_errors, types_of};
 ghost use Rattle.srb_references.specs.References.{reference_errors, references_of};
 ghost use Rattle.srb_rules.specs.Standing.{Stands};
+ghost use Rattle.srb_sig.specs.Views.{view_of};
 ghost use Rattle.srb_signatures.specs.Errors.{signature_errors};
 ghost use Rattle.srb_terms.specs.declared.fact.Fact.{Fact};
 ghost use Rattle.srb_check.specs.Arranged as order;
@@ -17,7 +19,7 @@ use crate::judging::{one_error, program_errors};
 use rb_tree::syntax::Tree;
 use srb_conflicts::conflicts;
 use srb_declarations::declarations;
-use srb_references::{references, unresolved};
+use srb_references::{malformed_types, mentions_of, unresolved};
 use srb_signatures::signature_errors;
 use srb_terms::{Diag, Items, Level, NoMemory, Steps, World};
 use std::alloc::{AllocError, Global};
@@ -56,17 +58,18 @@ fn add_conflicts(
     conflicts(alloc, world, declared.as_slice(), found)
 }
 
-/// Adds the errors of a program's references that stand for nothing.
-fn add_unresolved(
+/// Adds the errors of a program's references that stand for nothing, and of its malformed type expressions.
+fn add_mentioned(
     alloc: Global,
     world: &World,
     tree: &Tree,
     found: &mut Items<Diag>,
 ) -> Result<(), NoMemory>
-    ensures { (fs : List Fact) → Stands world.now fs → OnOk result (found.new ≡ found.old ++ reference_errors fs (references_of tree.now)) }
+    ensures { (fs : List Fact) → Stands world.now fs → OnOk result (found.new ≡ found.old ++ reference_errors fs (references_of tree.now) ++ malformed_errors (view_of fs) (types_of tree.now)) }
 {
-    let referred = references(alloc, tree)?;
-    unresolved(alloc, world, referred.as_slice(), found)
+    let mentioned = mentions_of(alloc, tree)?;
+    unresolved(alloc, world, mentioned.references.as_slice(), found)?;
+    malformed_types(alloc, world, mentioned.types.as_slice(), found)
 }
 
 /// Adds the errors of a program's signatures at this level.
@@ -82,7 +85,7 @@ fn add_signature_errors(
     found.append(errors)
 }
 
-/// The errors of a program's declarations, references and signatures at this level.
+/// The errors of a program's declarations, references, type expressions and signatures at this level.
 fn symbol_errors(
     alloc: Global,
     world: &World,
@@ -93,7 +96,7 @@ fn symbol_errors(
 {
     let mut found = Items::new(alloc);
     add_conflicts(alloc, world, tree, &mut found)?;
-    add_unresolved(alloc, world, tree, &mut found)?;
+    add_mentioned(alloc, world, tree, &mut found)?;
     add_signature_errors(alloc, level, tree, &mut found)?;
     Ok(found)
 }

@@ -1,5 +1,5 @@
 -- Where the errors of a file stand.
-use Rattle.std.proofs.Common.{◌≡◌, ℕ, ◌≤◌, Bool, true, false, if◌then◌else◌, List, [], ◌∷◌, ◌++◌, length, refl, Option, Some, None, IfSome, nat_lt, codes, inl, inr, Result, Ok, Err, arith}
+use Rattle.std.proofs.Common.{◌≡◌, ℕ, ◌≤◌, Bool, true, false, if◌then◌else◌, List, [], ◌∷◌, ◌++◌, length, refl, Option, Some, None, IfSome, nat_lt, codes, inl, inr, Result, Ok, Err, arith, subst, sym}
 use Rattle.std.specs.Str.{IsUtf8, chars, encode_utf8_all, is_utf8}
 use Rattle.std.proofs.lemmas.Str.{IsUtf8-from_is_utf8}
 use Rattle.srb_terms.specs.declared.diag.Diag.{Diag}
@@ -13,6 +13,7 @@ use Rattle.rb_lex.specs.Lexed.{lexed_text}
 use Rattle.rb_lex.specs.declared.LexEnd.{LexEnd}
 use Rattle.rb_lex.specs.declared.LexEnd.TheVariants as lex
 use Rattle.rb_lex_laws.specs.Tokens.{StandInOrder}
+use Rattle.srb_text.specs.Positions.{IsStart}
 use Rattle.rb_lex_laws.proofs.Standing.{tokens-stand, places-start}
 use Rattle.rb_expr.specs.declared.ParseEnd.{ParseEnd}
 use Rattle.rb_expr.specs.declared.ParseEnd.TheVariants as parse
@@ -37,8 +38,12 @@ use Rattle.srb_declarations.specs.Declarations.{declarations_of}
 use Rattle.srb_declarations_laws.specs.Placed.{place_of}
 use Rattle.srb_declarations_laws.proofs.Programs.{programs-declare}
 use Rattle.srb_references.specs.declared.reference.Reference.{Reference}
+use Rattle.srb_references.specs.MalformedTypes.{malformed_errors, types_of}
 use Rattle.srb_references.specs.References.{reference_errors, references_of}
+use Rattle.srb_references_laws.specs.Placed.{IsTreePlaced}
 use Rattle.srb_references_laws.proofs.Programs.{programs-refer}
+use Rattle.srb_references_laws.proofs.Types.{malformed-stand}
+use Rattle.srb_sig.specs.Views.{View, view_of}
 use Rattle.srb_signatures.specs.Errors.{signature_errors}
 use Rattle.srb_signatures_laws.proofs.Places.{signatures-stand}
 use Rattle.srb_check_laws.proofs.ArrangedPlaces.{append-at_places, arranged-at_places}
@@ -58,6 +63,7 @@ IsReadingIn text (Refused error) = InText text error.span
 IsReadingIn text (Program tree) =
     IfSome (built tree) (AreExpressionsIn text) × Each (λ d. InText text (place_of d)) (declarations_of tree) × Each (λ (r : Reference). InText text r.span) (references_of tree)
     × ((needed : Bool) → Each (λ (e : Diag). InText text e.span) (signature_errors needed tree))
+    × ((v : View) → Each (λ (e : Diag). InText text e.span) (malformed_errors v (types_of tree)))
 
 expression-in : (text : List ℕ) (tokens : List Token) → StandInOrder text 0 tokens → (e : Expression) → IsExpressionAt (IsPlaced tokens) e → IsExpressionAt (InText text) e
 expression-in text tokens stand Plain h = tt
@@ -77,6 +83,16 @@ each-in : {X : Type 0} (place : X → Span) (text : List ℕ) (tokens : List Tok
 each-in place text tokens stand [] h = tt
 each-in place text tokens stand (x ∷ xs) h = (placed-in_text text tokens stand (place x) h.0, each-in place text tokens stand xs h.1)
 
+tree-in : (text : List ℕ) (tokens : List Token) → StandInOrder text 0 tokens → (span : Span) → IsTreePlaced tokens span → InText text span
+tree-in text tokens stand span (inl h) = placed-in_text text tokens stand span h
+tree-in text tokens stand span (inr h) =
+    (subst (IsStart text) (sym h.0) (text-start text), subst (IsStart text) (sym h.1) (text-start text), omega (arith, h.0, h.1))
+
+trees-in : (text : List ℕ) (tokens : List Token) → StandInOrder text 0 tokens → (es : List Diag)
+    → Each (λ (e : Diag). IsTreePlaced tokens e.span) es → Each (λ (e : Diag). InText text e.span) es
+trees-in text tokens stand [] h = tt
+trees-in text tokens stand (e ∷ es) h = (tree-in text tokens stand e.span h.0, trees-in text tokens stand es h.1)
+
 parse_error-in : (text : List ℕ) (tokens : List Token) → StandInOrder text 0 tokens → (end : ParseEnd) → InText text (parse_error tokens (length (encode_utf8_all text)) end).span
 parse_error-in text tokens stand (parse.Bad at) = token_place-in_text text 0 tokens at stand
 parse_error-in text tokens stand (parse.TooDeep at) = token_place-in_text text 0 tokens at stand
@@ -90,6 +106,7 @@ parsed-in text tokens stand (Ok t) e =
       each-in place_of text tokens stand (declarations_of t) (programs-declare tokens t derives),
       each-in (λ (r : Reference). r.span) text tokens stand (references_of t) (programs-refer tokens t derives),
       (λ needed. each-in (λ (e : Diag). e.span) text tokens stand (signature_errors needed t) (signatures-stand tokens needed t (trees-stand-at-tokens tokens t derives))),
+      (λ v. trees-in text tokens stand (malformed_errors v (types_of t)) (malformed-stand tokens v t (trees-stand-at-tokens tokens t derives))),
     )
 parsed-in text tokens stand (Err end) e = parse_error-in text tokens stand end
 
@@ -146,9 +163,14 @@ reading_errors-places bytes utf8 facts level (Program tree) h =
     arranged-at_places bytes (symbol_errors facts level tree ++ type_errors level tree)
     (append-at_places bytes (symbol_errors facts level tree) (type_errors level tree)
     (errors-places bytes utf8 (symbol_errors facts level tree)
-    (errors-append (InText (chars bytes)) (conflict_errors facts (declarations_of tree) ++ reference_errors facts (references_of tree)) (signature_errors (needs_signatures level) tree)
+    (errors-append (InText (chars bytes))
+    (conflict_errors facts (declarations_of tree) ++ reference_errors facts (references_of tree) ++ malformed_errors (view_of facts) (types_of tree))
+    (signature_errors (needs_signatures level) tree)
+    (errors-append (InText (chars bytes)) (conflict_errors facts (declarations_of tree) ++ reference_errors facts (references_of tree))
+    (malformed_errors (view_of facts) (types_of tree))
     (errors-append (InText (chars bytes)) (conflict_errors facts (declarations_of tree)) (reference_errors facts (references_of tree))
     (conflicts-at (InText (chars bytes)) facts (declarations_of tree) h.1) (references-at (InText (chars bytes)) facts (references_of tree) h.2))
+    (h.4 (view_of facts)))
     (h.3 (needs_signatures level))))
     (type_errors-places bytes utf8 level tree h.0))
 

@@ -4,6 +4,8 @@
 #[cfg(test)]
 mod facts;
 #[cfg(test)]
+mod malformed;
+#[cfg(test)]
 mod references;
 #[cfg(test)]
 mod signatures;

@@ -2,7 +2,7 @@
 
 use rb_decl::parse;
 use rb_lex::lex;
-use srb_references::{Reference, references};
+use srb_references::{Reference, mentions_of};
 use srb_rules::Position;
 use srb_terms::{Items, Names};
 use srb_text::Text;
@@ -22,7 +22,7 @@ fn references_of(alloc: Global, text: &str) -> Result<Items<Reference>, AllocErr
     let Ok(tree) = parse(alloc, tokens.as_slice()) else {
         return Ok(Items::new(alloc));
     };
-    references(alloc, &tree)
+    Ok(mentions_of(alloc, &tree)?.references)
 }
 
 /// Adds names, each after a mark.

@@ -39,7 +39,7 @@ fn well_formed_signatures_have_no_error(rt: HostRuntime) -> Result<(), AllocErro
         "module A\n  sig { params(a: A).returns A }\n  def self.f(a)\n  end\nend\n",
         "class A\n  sig { void }\n  attr_reader :x\n  sig { returns(A) }\n  attr_accessor :y, :z\nend\n",
         "class A\n  sig { params(x: A).returns(A) }\n  attr_writer :x\nend\n",
-        "class A\n  sig { x }\n  attr_reader x\nend\n",
+        "class A\n  sig { params(x: A).void }\n  attr_reader x\nend\n",
         "class A\n  sig { returns(1) }\n  def f\n  end\nend\n",
         "sig { void.void }\ndef f\nend\n",
         "class A\n  sig { void } if a\nend\n",
@@ -63,6 +63,8 @@ fn malformed_signatures_have_one_error_each(rt: HostRuntime) -> Result<(), Alloc
         "class A\n  sig { final.void }\n  def f\n  end\nend\n",
         "class A\n  sig { void; void }\n  def f\n  end\nend\n",
         "class A\n  sig\n  def f\n  end\nend\n",
+        "class A\n  sig { x }\n  attr_reader x\nend\n",
+        "class A\n  sig { void.void }\n  attr_accessor\nend\n",
     ] {
         assert_eq!(rt; count(rt.alloc(), text)?, 1);
     }
