@@ -8,4 +8,7 @@ pub mod ExamplesOfLoops
 pub mod ExamplesOfOperators
 pub mod ExamplesOfWords
 pub mod Folds
+pub mod KeptContexts
 pub mod Nodes
+pub mod Rows
+pub mod Steps

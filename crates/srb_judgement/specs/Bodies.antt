@@ -10,7 +10,7 @@ use Rattle.rb_tree.specs.declared.syntax.Guarded.{Guarded}
 use Rattle.rb_tree.specs.declared.syntax.Parameter.{Parameter}
 use Rattle.rb_tree.specs.declared.syntax.PlacedName.{PlacedName}
 use Rattle.srb_rules.specs.FullNames.{full_name, OBJECT}
-use Rattle.srb_judgement.specs.Environments.{Live, joined, is_live}
+use Rattle.srb_judgement.specs.Environments.{Environment, Live, joined, is_live}
 use Rattle.srb_judgement.specs.Environments as environments
 use Rattle.srb_judgement.specs.Errors.{has_no_sig, wrong_default}
 use Rattle.srb_judgement.specs.Guards.{guard_judged}
@@ -43,7 +43,29 @@ path_name (n ∷ names) = joined_after n.name names
 abbrev pub declared_name : List (List ℕ) → List PlacedName → List ℕ
 declared_name scope path = full_name (innermost scope) (path_name path)
 
--- ---- the state in which a body begins
+-- the error of a method, by whether a `sig` stands before it
+abbrev pub sig_missing : Bool → List ℕ → Span → List Diag
+sig_missing false name span = has_no_sig span name ∷ []
+sig_missing true name span = []
+
+abbrev pub has_type : {T : Type 0} → List ℕ → T → State T → State T
+has_type name ty s = moved (environments.assigned_in s.environment name ty) s
+
+-- ---- where a body begins
+
+-- a context in which nothing is pinned and nothing visible
+abbrev pub bare_context : {T : Type 0} → T → List (List ℕ) → List ℕ → Bool → Option T → Context T
+bare_context self_type scope owner meta result = record {
+  self_type = self_type;
+  scope = scope;
+  owner = owner;
+  meta = meta;
+  result = result;
+  inside = false;
+  looping = false;
+  pins = λ name. None;
+  visible = λ name. false;
+}
 
 abbrev pub fresh : {T : Type 0} → State T
 fresh = record { environment = Live []; breaks = []; nexts = []; assigned = []; errors = [] }
@@ -61,8 +83,8 @@ module _ {T X : Type 0} (L : Language T X) where
     result = None;
     inside = false;
     looping = false;
-    pins = [];
-    visible = [];
+    pins = λ name. None;
+    visible = λ name. false;
   }
 
   -- the body of a class or module: `self` is its class object
@@ -108,8 +130,7 @@ module _ {T X : Type 0} (L : Language T X) where
 
   -- 7017: a method without a `sig`; "7017 isn't reported" where one is malformed
   abbrev pub sig_errors : Option X → List ℕ → Span → List Diag
-  sig_errors None name span = has_no_sig span name ∷ []
-  sig_errors (Some sig) name span = []
+  sig_errors sig name span = sig_missing (is_some sig) name span
 
   abbrev pub this_or : Bool → T → T → T
   this_or true found rest = found
@@ -123,17 +144,16 @@ module _ {T X : Type 0} (L : Language T X) where
 
   -- a default value "must be a subtype of its parameter, else 7002 with the method's name"; "Behind a default value the environment is the
   -- join of those before and behind it."
+  abbrev pub default_left : List ℕ → List ℕ → T → Span → Environment T → Judged T → State T
+  default_left method name ty span before j =
+      unless_error (L.is_sub j.ty ty) (wrong_default L span name method ty j.ty) (moved (joined L before j.state.environment) j.state)
+
   abbrev pub behind_default : List ℕ → List ℕ → T → Span → State T → Judged T → State T
-  behind_default method name ty span before j =
-      unless_error (L.is_sub j.ty ty) (wrong_default L span name method ty j.ty)
-      (moved (joined L before.environment j.state.environment) j.state)
+  behind_default method name ty span before j = default_left method name ty span before.environment j
 
   abbrev pub with_default : List ℕ → List ℕ → T → Option (Part T X) → Context T → State T → State T
   with_default method name ty None c s = s
   with_default method name ty (Some d) c s = behind_default method name ty d.it.span s (d.it.judge c s)
-
-  abbrev pub has_type : List ℕ → T → State T → State T
-  has_type name ty s = moved (environments.assigned_in s.environment name ty) s
 
   abbrev pub declared_by : Option (Part T X) → List (List ℕ)
   declared_by None = []

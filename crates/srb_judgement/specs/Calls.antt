@@ -71,12 +71,16 @@ module _ {T X : Type 0} (L : Language T X) where
   abbrev pub with_block : T → List ℕ → Span → Arguments T → ℕ → BlockJudged T → Judged T
   with_block receiver name span a names b = answered (L.call (sent receiver name span a (Some (record { names = names; ty = b.ty })))) b.breaks b.state
 
+  -- the types that a call gives to so many parameters of its block
+  abbrev pub types_given : T → List ℕ → Span → Arguments T → ℕ → List T
+  types_given receiver name span a names = (L.call (sent receiver name span a (Some (record { names = names; ty = L.untyped })))).block
+
   -- what a call with these arguments gives. The types of the block's names don't depend on B.
   abbrev pub call_with : Option (Block (Part T X)) → T → List ℕ → Span → Context T → Arguments T → Judged T
   call_with None receiver name span c a = answered (L.call (sent receiver name span a None)) [] a.state
   call_with (Some b) receiver name span c a =
       with_block receiver name span a (length b.parameters)
-      (block_judged L b (L.call (sent receiver name span a (Some (record { names = length b.parameters; ty = L.untyped })))).block c a.state)
+      (block_judged L b (types_given receiver name span a (length b.parameters)) c a.state)
 
   -- a call on a receiver of this type. "A call is judged also where its arguments ended the environment"
   abbrev pub call_on : T → List ℕ → Span → List (Argument (Operand T X)) → Option (Block (Part T X)) → Run T

@@ -26,8 +26,15 @@ abbrev pub caught_names : Option PlacedName → List (List ℕ)
 caught_names None = []
 caught_names (Some x) = x.name ∷ []
 
+abbrev pub part_spelling : {T X : Type 0} → Part T X → Spelling
+part_spelling p = p.it.spelling
+
 abbrev pub part_operand : {T X : Type 0} → Part T X → Operand T X
 part_operand p = p.it
+
+-- the outer variables that an `ensure` assigns, by those that it declares and all that are assigned in it
+abbrev pub names_ensured : {T : Type 0} → Context T → List (List ℕ) → List (List ℕ) → List (List ℕ)
+names_ensured c declares assigns = declares ++ filter (λ name. c.visible name) assigns
 
 module _ {T X : Type 0} (L : Language T X) where
   -- ---- 2. "The environment h has, for each variable of v or assigned in the first body, the `T.any` of its type in v and of all types that
@@ -55,20 +62,20 @@ module _ {T X : Type 0} (L : Language T X) where
   exception_meant (ValueOf ty) = None
   exception_meant Unresolved = None
 
-  abbrev pub exception_of : Context T → Spelling → Option T
-  exception_of c (ConstantPath path) = exception_meant (L.meaning c.scope path)
-  exception_of c (NameAlone name) = None
-  exception_of c NilWord = None
-  exception_of c Other = None
+  abbrev pub exception_in : List (List ℕ) → Spelling → Option T
+  exception_in scope (ConstantPath path) = exception_meant (L.meaning scope path)
+  exception_in scope (NameAlone name) = None
+  exception_in scope NilWord = None
+  exception_in scope Other = None
 
   abbrev pub with_exception : Option T → Option T → Option T
   with_exception (Some so_far) (Some ty) = Some (L.any so_far ty)
   with_exception (Some so_far) None = None
   with_exception None found = None
 
-  abbrev pub exceptions : Context T → Option T → List (Part T X) → Option T
-  exceptions c so_far [] = so_far
-  exceptions c so_far (p ∷ patterns) = exceptions c (with_exception so_far (exception_of c p.it.spelling)) patterns
+  abbrev pub exceptions_in : List (List ℕ) → Option T → List Spelling → Option T
+  exceptions_in scope so_far [] = so_far
+  exceptions_in scope so_far (p ∷ patterns) = exceptions_in scope (with_exception so_far (exception_in scope p)) patterns
 
   abbrev pub or_untyped : Option T → T
   or_untyped (Some ty) = ty
@@ -76,9 +83,12 @@ module _ {T X : Type 0} (L : Language T X) where
 
   -- "`=> x` assigns to x the `T.any` of the named classes, if each pattern is [such] a constant ..; `StandardError` if there is no pattern;
   -- else `T.untyped`."
+  abbrev pub caught_in : List (List ℕ) → List Spelling → T
+  caught_in scope [] = L.instance (codes "StandardError")
+  caught_in scope (p ∷ patterns) = or_untyped (exceptions_in scope (Some L.never) (p ∷ patterns))
+
   abbrev pub caught_type : Context T → List (Part T X) → T
-  caught_type c [] = L.instance (codes "StandardError")
-  caught_type c (p ∷ patterns) = or_untyped (exceptions c (Some L.never) (p ∷ patterns))
+  caught_type c patterns = caught_in c.scope (map part_spelling patterns)
 
   -- "It is an assignment .., its place the variable."
   abbrev pub caught : Option PlacedName → T → Context T → State T → State T
@@ -147,18 +157,21 @@ module _ {T X : Type 0} (L : Language T X) where
 
   -- "An `ensure` is judged once .. Its type is dropped. If it ends live, ..; else the whole is dead, has `T.noreturn` and no jump
   -- environment." The jumps that it makes itself are among those; "A whole whose `ensure` ends silent is silent."
-  abbrev pub with_ensured : Environment T → List (List ℕ) → Rescuing T → State T → Judged T
-  with_ensured (Live ensured) names r s = judged r.ty (record s {
-    environment = ensured_environment names ensured r.ends;
-    breaks = map (ensured_left names ensured) r.state.breaks ++ s.breaks;
-    nexts = map (ensured_left names ensured) r.state.nexts ++ s.nexts;
+  abbrev pub ensured_whole : Environment T → List (List ℕ) → T → Environment T → List (Left T) → List (Left T) → State T → Judged T
+  ensured_whole (Live ensured) names ty ends breaks nexts s = judged ty (record s {
+    environment = ensured_environment names ensured ends;
+    breaks = map (ensured_left names ensured) breaks ++ s.breaks;
+    nexts = map (ensured_left names ensured) nexts ++ s.nexts;
   })
-  with_ensured Dead names r s = judged L.never (record s { environment = Dead; breaks = []; nexts = [] })
-  with_ensured Silent names r s = judged L.never (record s { environment = Silent; breaks = []; nexts = [] })
+  ensured_whole Dead names ty ends breaks nexts s = judged L.never (record s { environment = Dead; breaks = []; nexts = [] })
+  ensured_whole Silent names ty ends breaks nexts s = judged L.never (record s { environment = Silent; breaks = []; nexts = [] })
+
+  abbrev pub with_ensured : Environment T → List (List ℕ) → Rescuing T → State T → Judged T
+  with_ensured e names r s = ensured_whole e names r.ty r.ends r.state.breaks r.state.nexts s
 
   -- the outer variables that it assigns
   abbrev pub ensured_names : Context T → Operand T X → List (List ℕ)
-  ensured_names c ensure = ensure.declares ++ filter (λ name. has_name name c.visible) ensure.assigns
+  ensured_names c ensure = names_ensured c ensure.declares ensure.assigns
 
   abbrev pub after_ensure : Part T X → Context T → Rescuing T → Judged T → Judged T
   after_ensure ensure c r j = with_ensured j.state.environment (ensured_names c ensure.it) r j.state

@@ -43,8 +43,12 @@ module _ {T X : Type 0} (L : Language T X) where
   checked_jump jump.Next result place ty s = s
 
   -- "`return e` .. is dead afterwards; so are `break` and `next`."
+  abbrev pub jumped_by : Bool → Option T → Jump → Span → Judged T → Judged T
+  jumped_by inside result word place j =
+      judged L.never (stopped (left_by inside word j.ty (checked_jump word result place j.ty j.state)))
+
   abbrev pub jumped : Jump → Span → Context T → Judged T → Judged T
-  jumped word place c j = judged L.never (stopped (left_by c.inside word j.ty (checked_jump word c.result place j.ty j.state)))
+  jumped word place c j = jumped_by c.inside c.result word place j
 
   -- "Without a value they carry `NilClass`."
   abbrev pub jump_judged : Jump → Option (Part T X) → Span → Run T

@@ -7,6 +7,7 @@ pub mod Calls
 pub mod Cases
 pub mod Chains
 pub mod Conditions
+pub mod Ends
 pub mod Environments
 pub mod Errors
 pub mod ExampleCalls
@@ -24,9 +25,11 @@ pub mod ExamplesOfLoops
 pub mod ExamplesOfOperators
 pub mod ExamplesOfWords
 pub mod Expressions
+pub mod Forms
 pub mod Guards
 pub mod Judgements
 pub mod Jumps
+pub mod Kept
 pub mod Languages
 pub mod Laws
 pub mod Loops
@@ -38,6 +41,9 @@ pub mod Reaching
 pub mod Sequences
 pub mod Spellings
 pub mod States
+pub mod Steps
 pub mod Types
+pub mod Unreached
 pub mod Variables
+pub mod Views
 pub mod Words

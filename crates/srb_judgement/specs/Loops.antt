@@ -7,7 +7,7 @@ use Rattle.srb_judgement.specs.Environments.{Environment, Live, joined, is_live}
 use Rattle.srb_judgement.specs.Languages.{Language}
 use Rattle.srb_judgement.specs.Parts.{Part}
 use Rattle.srb_judgement.specs.Pins.{in_loop}
-use Rattle.srb_judgement.specs.States.{Context, State, Left, Judged, Tested, Run, judged, moved, seeing, without_jumps, with_jumps_of}
+use Rattle.srb_judgement.specs.States.{Context, State, Left, Judged, Tested, Run, judged, moved, seeing, without_jumps, with_jumps}
 use Rattle.srb_judgement.specs.Types.{nil_type, any_of, type_if}
 
 module _ {T X : Type 0} (L : Language T X) where
@@ -22,10 +22,13 @@ module _ {T X : Type 0} (L : Language T X) where
 
   -- "Behind the loop the environment is the join of the condition's falsehood and the `break` environments; its type is the `T.any` of
   -- `NilClass`, if the falsehood is live, and the `break` types."
+  abbrev pub loop_left : Environment T → List (Left T) → List (Left T) → State T → Judged T
+  loop_left falsehood breaks nexts s =
+      judged (any_of L (type_if L (is_live falsehood) (nil_type L) ∷ map left_type s.breaks))
+      (with_jumps breaks nexts (moved (joined_breaks falsehood s.breaks) s))
+
   abbrev pub behind_loop : Environment T → State T → Judged T → Judged T
-  behind_loop falsehood before j =
-      judged (any_of L (type_if L (is_live falsehood) (nil_type L) ∷ map left_type j.state.breaks))
-      (with_jumps_of before (moved (joined_breaks falsehood j.state.breaks) j.state))
+  behind_loop falsehood before j = loop_left falsehood before.breaks before.nexts j.state
 
   abbrev pub loop_after : Part T X → Context T → State T → Tested T → Judged T
   loop_after body c before t = behind_loop t.falsehood before (body.it.judge c (moved t.truth t.state))

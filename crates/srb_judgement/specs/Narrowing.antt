@@ -18,6 +18,31 @@ pub data Says (T : Type 0) : Type 0 where
   SaysIsNot : List ℕ → T → Says T
   SaysNothing : Says T
 
+-- ---- variables
+
+abbrev pub if_visible : Bool → List ℕ → Option (List ℕ)
+if_visible true name = Some name
+if_visible false name = None
+
+module _ {T : Type 0} where
+  -- the variable that an operand is; brackets make it none
+  abbrev pub variable_of : Context T → Spelling → Option (List ℕ)
+  variable_of c (NameAlone name) = if_visible (is_visible c name) name
+  variable_of c NilWord = None
+  variable_of c (ConstantPath path) = None
+  variable_of c Other = None
+
+  abbrev pub says_is : Option (List ℕ) → Option T → Says T
+  says_is (Some name) (Some ty) = SaysIs name ty
+  says_is (Some name) None = SaysNothing
+  says_is None ty = SaysNothing
+
+  abbrev pub exchanged_says : Says T → Says T
+  exchanged_says (SaysTruthy name) = SaysNothing
+  exchanged_says (SaysIs name ty) = SaysIsNot name ty
+  exchanged_says (SaysIsNot name ty) = SaysIs name ty
+  exchanged_says SaysNothing = SaysNothing
+
 -- ---- sides
 
 module _ {T X : Type 0} (L : Language T X) where
@@ -56,17 +81,6 @@ module _ {T X : Type 0} (L : Language T X) where
 
   -- ---- what a test says
 
-  -- the variable that an operand is; brackets make it none
-  abbrev pub if_visible : Bool → List ℕ → Option (List ℕ)
-  if_visible true name = Some name
-  if_visible false name = None
-
-  abbrev pub variable_of : Context T → Spelling → Option (List ℕ)
-  variable_of c (NameAlone name) = if_visible (is_visible c name) name
-  variable_of c NilWord = None
-  variable_of c (ConstantPath path) = None
-  variable_of c Other = None
-
   -- "C a class or module"; "`C` stands for `T::Array[T.untyped]` or `T::Hash[T.untyped, T.untyped]` where it is `Array` or `Hash`"
   abbrev pub class_meant : Meaning T → Option T
   class_meant (ClassNamed name) = Some (L.instance name)
@@ -74,22 +88,14 @@ module _ {T X : Type 0} (L : Language T X) where
   class_meant (ValueOf ty) = None
   class_meant Unresolved = None
 
+  abbrev pub class_in : List (List ℕ) → Spelling → Option T
+  class_in scope (ConstantPath path) = class_meant (L.meaning scope path)
+  class_in scope (NameAlone name) = None
+  class_in scope NilWord = None
+  class_in scope Other = None
+
   abbrev pub class_of : Context T → Spelling → Option T
-  class_of c (ConstantPath path) = class_meant (L.meaning c.scope path)
-  class_of c (NameAlone name) = None
-  class_of c NilWord = None
-  class_of c Other = None
-
-  abbrev pub says_is : Option (List ℕ) → Option T → Says T
-  says_is (Some name) (Some ty) = SaysIs name ty
-  says_is (Some name) None = SaysNothing
-  says_is None ty = SaysNothing
-
-  abbrev pub exchanged_says : Says T → Says T
-  exchanged_says (SaysTruthy name) = SaysNothing
-  exchanged_says (SaysIs name ty) = SaysIsNot name ty
-  exchanged_says (SaysIsNot name ty) = SaysIs name ty
-  exchanged_says SaysNothing = SaysNothing
+  class_of c spelling = class_in c.scope spelling
 
   abbrev pub nil_of : Spelling → Option T
   nil_of NilWord = Some (nil_type L)
@@ -97,22 +103,31 @@ module _ {T X : Type 0} (L : Language T X) where
   nil_of (ConstantPath path) = None
   nil_of Other = None
 
+  abbrev pub equal_spelled : Context T → Spelling → Spelling → Says T
+  equal_spelled c left right = says_is (variable_of c left) (nil_of right)
+
   -- "`x == nil` (`!=` exchanged)"
   abbrev pub says_equal : Context T → Operand T X → Operand T X → Says T
-  says_equal c left right = says_is (variable_of c left.spelling) (nil_of right.spelling)
+  says_equal c left right = equal_spelled c left.spelling right.spelling
+
+  abbrev pub class_spelled : Context T → Spelling → Spelling → Says T
+  class_spelled c variable class = says_is (variable_of c variable) (class_of c class)
 
   -- "`C === x`"
   abbrev pub says_case_equal : Context T → Operand T X → Operand T X → Says T
-  says_case_equal c left right = says_is (variable_of c right.spelling) (class_of c left.spelling)
+  says_case_equal c left right = class_spelled c right.spelling left.spelling
 
   -- "`x.is_a?(C)`, `x.kind_of?(C)`"
   abbrev pub says_kind : Context T → Spelling → List (Argument (Operand T X)) → Says T
-  says_kind c receiver (argument.Positional value ∷ []) = says_is (variable_of c receiver) (class_of c value.spelling)
+  says_kind c receiver (argument.Positional value ∷ []) = class_spelled c receiver value.spelling
   says_kind c receiver _ = SaysNothing
+
+  abbrev pub nil_spelled : Context T → Spelling → Says T
+  nil_spelled c receiver = says_is (variable_of c receiver) (Some (nil_type L))
 
   -- "`x.nil?`"
   abbrev pub says_nil : Context T → Spelling → List (Argument (Operand T X)) → Says T
-  says_nil c receiver [] = says_is (variable_of c receiver) (Some (nil_type L))
+  says_nil c receiver [] = nil_spelled c receiver
   says_nil c receiver _ = SaysNothing
 
   -- a call by `.` without a block, on an operand with this spelling
@@ -127,6 +142,8 @@ module _ {T X : Type 0} (L : Language T X) where
   or_says SaysNothing other = other
   or_says says other = says
 
+  abbrev pub pattern_in : Option (List ℕ) → List (List ℕ) → Spelling → Says T
+  pattern_in variable scope pattern = or_says (says_is variable (nil_of pattern)) (says_is variable (class_in scope pattern))
+
   abbrev pub says_pattern : Context T → Context T → Spelling → Operand T X → Says T
-  says_pattern before c subject pattern =
-      or_says (says_is (variable_of before subject) (nil_of pattern.spelling)) (says_is (variable_of before subject) (class_of c pattern.spelling))
+  says_pattern before c subject pattern = pattern_in (variable_of before subject) c.scope pattern.spelling

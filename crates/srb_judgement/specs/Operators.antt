@@ -8,7 +8,7 @@ use Rattle.rb_tree.specs.declared.syntax.Unary.{Unary}
 use Rattle.rb_tree.specs.declared.syntax.Unary.TheVariants as unary
 use Rattle.rb_views.specs.Places.{prefix_operator}
 use Rattle.srb_judgement.specs.Calls.{call_on}
-use Rattle.srb_judgement.specs.Environments.{joined, is_live}
+use Rattle.srb_judgement.specs.Environments.{Environment, joined, is_live}
 use Rattle.srb_judgement.specs.Languages.{Language}
 use Rattle.srb_judgement.specs.Narrowing.{Says, SaysNothing, says_equal, says_case_equal, exchanged_says, saying}
 use Rattle.srb_judgement.specs.Parts.{Operand, Part}
@@ -43,22 +43,28 @@ module _ {T X : Type 0} (L : Language T X) where
   -- ---- `&&` and `||`: "`&&` and `||` use the condition of their left side"
 
   -- a condition after another one, which is judged in the environment of one of its sides
-  abbrev pub and_tested : Tested T → Tested T → Tested T
-  and_tested a b = record {
-    ty = L.any (type_if L (is_live a.falsehood) (falsy L a.ty)) (type_if L (is_live (joined L b.truth b.falsehood)) b.ty);
+  abbrev pub and_sides : T → Environment T → Tested T → Tested T
+  and_sides ty falsehood b = record {
+    ty = L.any (type_if L (is_live falsehood) (falsy L ty)) (type_if L (is_live (joined L b.truth b.falsehood)) b.ty);
     truth = b.truth;
-    falsehood = joined L a.falsehood b.falsehood;
+    falsehood = joined L falsehood b.falsehood;
     state = b.state;
   }
 
+  abbrev pub and_tested : Tested T → Tested T → Tested T
+  and_tested a b = and_sides a.ty a.falsehood b
+
   -- "`a || b`: join of both truths; falsehood of b after falsehood of a"
-  abbrev pub or_tested : Tested T → Tested T → Tested T
-  or_tested a b = record {
-    ty = L.any (type_if L (is_live a.truth) (truthy L a.ty)) (type_if L (is_live (joined L b.truth b.falsehood)) b.ty);
-    truth = joined L a.truth b.truth;
+  abbrev pub or_sides : T → Environment T → Tested T → Tested T
+  or_sides ty truth b = record {
+    ty = L.any (type_if L (is_live truth) (truthy L ty)) (type_if L (is_live (joined L b.truth b.falsehood)) b.ty);
+    truth = joined L truth b.truth;
     falsehood = b.falsehood;
     state = b.state;
   }
+
+  abbrev pub or_tested : Tested T → Tested T → Tested T
+  or_tested a b = or_sides a.ty a.truth b
 
   abbrev pub and_next : Test T → Context T → Tested T → Tested T
   and_next b c a = and_tested a (b c (moved a.truth a.state))
@@ -75,16 +81,22 @@ module _ {T X : Type 0} (L : Language T X) where
 
   -- "`a && b` has `T.any(falsy(a), b)` .. where a dead side adds nothing": the environment is the join of the side that ends there and of
   -- that behind b
+  abbrev pub and_behind : T → Environment T → Judged T → Judged T
+  and_behind ty falsehood b =
+      judged (L.any (type_if L (is_live falsehood) (falsy L ty)) (type_if L (is_live b.state.environment) b.ty))
+      (moved (joined L falsehood b.state.environment) b.state)
+
   abbrev pub and_ended : Tested T → Judged T → Judged T
-  and_ended a b =
-      judged (L.any (type_if L (is_live a.falsehood) (falsy L a.ty)) (type_if L (is_live b.state.environment) b.ty))
-      (moved (joined L a.falsehood b.state.environment) b.state)
+  and_ended a b = and_behind a.ty a.falsehood b
 
   -- "`a || b` has `T.any(truthy(a), b)`"
+  abbrev pub or_behind : T → Environment T → Judged T → Judged T
+  or_behind ty truth b =
+      judged (L.any (type_if L (is_live truth) (truthy L ty)) (type_if L (is_live b.state.environment) b.ty))
+      (moved (joined L truth b.state.environment) b.state)
+
   abbrev pub or_ended : Tested T → Judged T → Judged T
-  or_ended a b =
-      judged (L.any (type_if L (is_live a.truth) (truthy L a.ty)) (type_if L (is_live b.state.environment) b.ty))
-      (moved (joined L a.truth b.state.environment) b.state)
+  or_ended a b = or_behind a.ty a.truth b
 
   abbrev pub and_after : Run T → Context T → Tested T → Judged T
   and_after b c a = and_ended a (b c (moved a.truth a.state))
@@ -137,7 +149,7 @@ module _ {T X : Type 0} (L : Language T X) where
 
   abbrev pub says_operator : Binary → Operand T X → Operand T X → Context T → Says T
   says_operator binary.Equal left right c = says_equal L c left right
-  says_operator binary.NotEqual left right c = exchanged_says L (says_equal L c left right)
+  says_operator binary.NotEqual left right c = exchanged_says (says_equal L c left right)
   says_operator binary.CaseEqual left right c = says_case_equal L (seeing left.declares c) left right
   says_operator _ left right c = SaysNothing
 

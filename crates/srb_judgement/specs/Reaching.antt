@@ -14,6 +14,10 @@ both_sides j = record { ty = j.ty; truth = j.state.environment; falsehood = j.st
 abbrev pub judged_only : {T : Type 0} → Run T → Test T
 judged_only run c s = both_sides (run c s)
 
+abbrev pub ended_if : {T : Type 0} → Bool → Environment T → Environment T
+ended_if true e = ended e
+ended_if false e = e
+
 module _ {T X : Type 0} (L : Language T X) where
   abbrev pub stopped_if : Bool → T → State T → Judged T
   stopped_if true ty s = judged ty (stopped s)
@@ -35,10 +39,6 @@ module _ {T X : Type 0} (L : Language T X) where
   expression span run c s = reached s.environment span run c s
 
   -- ---- conditions
-
-  abbrev pub ended_if : Bool → Environment T → Environment T
-  ended_if true e = ended e
-  ended_if false e = e
 
   -- "A side .. which the type of e excludes (`truthy` or `falsy` has no part), is dead."
   abbrev pub excluding : Tested T → Tested T

@@ -1,15 +1,10 @@
 -- What is around an expression, and what the judgement gives: the type, the environment after it, the jump environments and the errors.
-use Rattle.std.specs.Prelude.{ℕ, Bool, true, false, List, [], ◌∷◌, ◌++◌, Option}
+use Rattle.std.specs.Prelude.{ℕ, Bool, true, false, ◌||◌, List, [], ◌∷◌, ◌++◌, Option}
 use Rattle.srb_terms.specs.NameSets.{has_name}
 use Rattle.srb_terms.specs.declared.diag.Diag.{Diag}
 use Rattle.srb_judgement.specs.Environments.{Row, row, Environment, Live, Dead, Silent, ended, assigned_in}
 
 -- ---- around an expression
-
--- The type at which a variable is pinned. A block's parameter hides an outer variable of its name, and isn't pinned by its own block.
-pub record Pin (T : Type 0) : Type 0 where
-  pub name : List ℕ
-  pub ty : Option T
 
 pub record Context (T : Type 0) : Type 0 where
   -- the type of `self`
@@ -25,11 +20,11 @@ pub record Context (T : Type 0) : Type 0 where
   pub inside : Bool
   -- whether a loop is around
   pub looping : Bool
-  -- the pinned variables, the innermost pin first
-  pub pins : List (Pin T)
+  -- The type at which a variable is pinned. A block's parameter hides an outer variable of its name, and isn't pinned by its own block.
+  pub pins : List ℕ → Option T
   -- The variables that are visible: "a parameter of that name, or an assignment to it, begins earlier in the same body and, if that
   -- stands in a block, the block encloses the identifier". Earlier is told by the text, whatever is judged first.
-  pub visible : List (List ℕ)
+  pub visible : List ℕ → Bool
 
 -- ---- what is passed on
 
@@ -76,10 +71,10 @@ Test T = Context T → State T → Tested T
 module _ {T : Type 0} where
   -- further variables are visible
   abbrev pub seeing : List (List ℕ) → Context T → Context T
-  seeing names c = record c { visible = names ++ c.visible }
+  seeing names c = record c { visible = λ name. has_name name names || c.visible name }
 
   abbrev pub is_visible : Context T → List ℕ → Bool
-  is_visible c name = has_name name c.visible
+  is_visible c name = c.visible name
 
   -- ---- states
 
@@ -122,5 +117,8 @@ module _ {T : Type 0} where
   without_jumps s = record s { breaks = []; nexts = [] }
 
   -- the jumps of what is around, after those of a loop or block were caught
+  abbrev pub with_jumps : List (Left T) → List (Left T) → State T → State T
+  with_jumps breaks nexts s = record s { breaks = breaks; nexts = nexts }
+
   abbrev pub with_jumps_of : State T → State T → State T
-  with_jumps_of outer s = record s { breaks = outer.breaks; nexts = outer.nexts }
+  with_jumps_of outer s = with_jumps outer.breaks outer.nexts s
