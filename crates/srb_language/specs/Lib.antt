@@ -1,0 +1,3 @@
+pub mod Knowledge
+pub mod Asked
+pub mod Ready
