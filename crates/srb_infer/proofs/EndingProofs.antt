@@ -13,12 +13,12 @@ use Rattle.srb_judgement.specs.Parts.{Part}
 use Rattle.srb_judgement.specs.Spellings.{ending_at}
 use Rattle.srb_infer.proofs.Known.{part_is}
 use Rattle.srb_infer.specs.Known.{known_suffix, known_suffixes, known_node, part_by_node}
-use Rattle.srb_infer.specs.Endings.{end_by, end_last, end_at, end_of, known_end, EndsAsWritten}
+use Rattle.srb_infer.specs.Endings.{End, end_by, end_last, end_at, end_of, known_end, EndsAsWritten}
 
 -- ---- the last of a row
 
 -- by whether a row is empty, or has a last suffix
-by-last : (P : List (Suffix Tree) → Type 0) → P [] → ((front : List (Suffix Tree)) (s : Suffix Tree) → P (front ++ s ∷ [])) → (xs : List (Suffix Tree)) → P xs
+pub by-last : (P : List (Suffix Tree) → Type 0) → P [] → ((front : List (Suffix Tree)) (s : Suffix Tree) → P (front ++ s ∷ [])) → (xs : List (Suffix Tree)) → P xs
 by-last P none some [] = none
 by-last P none some (x ∷ xs) = by-last (λ ys. P (x ∷ ys)) (some [] x) (λ front s. some (x ∷ front) s) xs
 
@@ -33,10 +33,10 @@ front-of-more : (ss : List (Suffix Tree)) (s : Suffix Tree) → take (length ss)
 front-of-more [] s = refl
 front-of-more (x ∷ ss) s = ap (λ qs. x ∷ qs) (front-of-more ss s)
 
-last-is : (ss : List (Suffix Tree)) (s : Suffix Tree) → last_suffix (ss ++ s ∷ []) ≡ Some s
+pub last-is : (ss : List (Suffix Tree)) (s : Suffix Tree) → last_suffix (ss ++ s ∷ []) ≡ Some s
 last-is ss s = ap (λ n. slice_get (ss ++ s ∷ []) n) (shorter ss s) ∙ last-of-more ss s
 
-front-is : (ss : List (Suffix Tree)) (s : Suffix Tree) → take (length (ss ++ s ∷ []) - 1) (ss ++ s ∷ []) ≡ ss
+pub front-is : (ss : List (Suffix Tree)) (s : Suffix Tree) → take (length (ss ++ s ∷ []) - 1) (ss ++ s ∷ []) ≡ ss
 front-is ss s = ap (λ n. take n (ss ++ s ∷ [])) (shorter ss s) ∙ front-of-more ss s
 
 end-of-more : (operand : Tree) (ss : List (Suffix Tree)) (s : Suffix Tree) →
@@ -44,7 +44,7 @@ end-of-more : (operand : Tree) (ss : List (Suffix Tree)) (s : Suffix Tree) →
 end-of-more operand ss s = λ i. end_by (record { operand = operand; suffixes = front-is ss s i }) (last-is ss s i)
 
 module _ {T X : Type 0} (L : Language T X) where
-  one-more : (ss : List (Suffix Tree)) (s : Suffix Tree) (row : Chain T X) →
+  pub one-more : (ss : List (Suffix Tree)) (s : Suffix Tree) (row : Chain T X) →
       with_suffixes L row (known_suffixes L (ss ++ s ∷ [])) ≡ with_suffix L (with_suffixes L row (known_suffixes L ss)) (known_suffix L s)
   one-more [] s row = refl
   one-more (x ∷ ss) s row = one-more ss s (with_suffix L row (known_suffix L x))
@@ -112,3 +112,7 @@ module _ {T X : Type 0} (L : Language T X) where
 pub ends_as_written : {T X : Type 0} → EndsAsWritten T X
 unfolding part_by_node part_at end_of
 ends_as_written {T} {X} L t = ap (λ (p : Part T X). p.ending) (part_is L t) ∙ end-at L (out-Node t.node)
+
+-- what the judgement knows of an end that was told
+pub ending_told : {T X : Type 0} (L : Language T X) (t : Tree) (e : End) → e ≡ end_of t → known_end L e ≡ (part_of L t).ending
+ending_told L t e h = ap (known_end L) h ∙ sym (ends_as_written L t)

@@ -30,7 +30,7 @@ module _ {T X : Type 0} (L : Language T X) where
   constant-longer NilWord name = refl
   constant-longer Other name = refl
 
-  spelled : (xs : List (Suffix Tree)) (row : Chain T X) → (with_suffixes L row (known_suffixes L xs)).it.spelling ≡ row_spelling row.it.spelling xs
+  pub spelled : (xs : List (Suffix Tree)) (row : Chain T X) → (with_suffixes L row (known_suffixes L xs)).it.spelling ≡ row_spelling row.it.spelling xs
   spelled [] row = refl
   spelled (suffix.Call how name name_span arguments b span ∷ xs) row = spelled xs (with_suffix L row (known_suffix L (suffix.Call how name name_span arguments b span)))
   spelled (suffix.Constant name name_span span ∷ xs) row =
@@ -274,3 +274,7 @@ module _ {T X : Type 0} (L : Language T X) where
 
 pub told_by_writing : {T X : Type 0} → ToldByTheirWriting T X
 told_by_writing L t = record { span = span-is L t; is_empty = empty-is L t; last = last-is L t; standing = standing-is L t }
+
+-- the place of a tree, by how it is written
+pub span_told : {T X : Type 0} (L : Language T X) (t : Tree) → (part_of L t).it.span ≡ span_of t
+span_told L t = (told_by_writing L t).span
