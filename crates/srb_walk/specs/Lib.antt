@@ -1,0 +1,10 @@
+pub mod Assigned
+pub mod Beside
+pub mod Copies
+pub mod Endings
+pub mod Judging
+pub mod Known
+pub mod Rows
+pub mod Saying
+pub mod Walking
+pub mod Written
