@@ -1,0 +1,4 @@
+pub mod Calling
+pub mod Chained
+pub mod Counting
+pub mod Forming

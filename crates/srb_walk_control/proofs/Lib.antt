@@ -1,0 +1,5 @@
+pub mod Branching
+pub mod Casing
+pub mod Guarding
+pub mod Looping
+pub mod Sequencing

@@ -1,0 +1,15 @@
+use Rattle.std.proofs.Common.{arith}
+use Rattle.srb_judgement.specs.Branches.{with_arms}
+use Rattle.srb_judgement.specs.Kept.{seen_context}
+use Rattle.srb_judgement.specs.Views.{seen_state}
+use Rattle.srb_walk.specs.Known.{known_arms}
+use Rattle.srb_walk_control.specs.Passed.{seen_branching}
+use Rattle.srb_walk_control.proofs.Branching.{arms_step}
+use Rattle.srb_walk_control.proofs.branches.arms.Goals as goal
+
+pub row-preserved : goal.row-preserved
+row-preserved g c = let the = g.L.Language.the c.args.language.now in
+    arms_step the c.args.row.now c.row.each-index c.each-item.result (seen_context c.args.context.now)
+    (seen_branching c.row.branching (seen_state c.row.state)) (seen_branching c.in_ok-branching.branching (seen_state c.arm.new.state))
+    (with_arms the (known_arms the c.args.row.now) (seen_context c.args.context.now) (seen_branching c.args.so_far (seen_state c.args.state.now)))
+    (omega arith) c.each-item.is c.in_ok-branching.ensures c.row.invariant

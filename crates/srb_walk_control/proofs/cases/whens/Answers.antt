@@ -1,0 +1,15 @@
+use Rattle.std.proofs.Common.{arith}
+use Rattle.srb_judgement.specs.Cases.{with_whens}
+use Rattle.srb_judgement.specs.Kept.{seen_context}
+use Rattle.srb_judgement.specs.Views.{seen_state}
+use Rattle.srb_walk.specs.Known.{known_whens}
+use Rattle.srb_walk_control.specs.Passed.{seen_branching, seen_subject, subject_test}
+use Rattle.srb_walk_control.proofs.Casing.{whens_step}
+use Rattle.srb_walk_control.proofs.cases.whens.Goals as goal
+
+pub row-preserved : goal.row-preserved
+row-preserved g c = let the = g.L.Language.the c.args.language.now in let test = subject_test the (seen_subject c.args.subject.now) in
+    whens_step the test c.args.row.now c.row.each-index c.each-item.result (seen_context c.args.context.now)
+    (seen_branching c.row.branching (seen_state c.row.state)) (seen_branching c.in_ok-branching.branching (seen_state c.when.new.state))
+    (with_whens the test (known_whens the c.args.row.now) (seen_context c.args.context.now) (seen_branching c.args.so_far (seen_state c.args.state.now)))
+    (omega arith) c.each-item.is c.in_ok-branching.ensures c.row.invariant

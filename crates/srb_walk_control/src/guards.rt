@@ -1,0 +1,519 @@
+//! `begin`, `rescue`, `else` and `ensure`.
+
+ghost use Rattle.std.specs.Prelude.{◌≡◌, [], ◌∷◌, ◌++◌, map, false, Some, IfOk, OnOk};
+ghost use Rattle.srb_judgement.specs.Guards as guards_spec;
+ghost use Rattle.srb_judgement.specs.Kept.{seen_context};
+ghost use Rattle.srb_judgement.specs.Sequences.{all_declared};
+ghost use Rattle.srb_judgement.specs.States.{judged, moved, seeing};
+ghost use Rattle.srb_judgement.specs.Variables.{part_operand};
+ghost use Rattle.srb_judgement.specs.Views.{seen_environment, seen_state, settled};
+ghost use Rattle.srb_walk_control.specs.Passed as passed;
+ghost use Rattle.srb_walk.specs.Assigned.{names_of};
+ghost use Rattle.srb_walk.specs.Judging as spec;
+ghost use Rattle.srb_walk.specs.Known as known;
+
+use crate::sequences::operands;
+use rb_tree::syntax::{Guarded, PlacedName, Rescue, Tree};
+use srb_judgement::blocks::set_aside;
+use srb_judgement::contexts::Context;
+use srb_judgement::ends::{Ends, all_ends, no_ends, with_end, with_first_end};
+use srb_judgement::environments::Environment;
+use srb_judgement::guards::{
+    begin_ensure, catch, caught_type, end_ensure, handled, leave_guard, names_ensured,
+};
+use srb_judgement::language::Language;
+use srb_judgement::states::State;
+use srb_terms::{Items, Name, NoMemory, Ty};
+use srb_walk::around::with_names;
+use srb_walk::assigned::assigned;
+use srb_walk::names::{declare_all, spellings};
+use srb_walk::walking::Walk;
+use std::alloc::Global;
+
+/// The clauses of a guard so far: their ends, the environment in which the next patterns are judged, and the variables that became
+/// visible.
+#[derive(Drop)]
+pub struct Rescuing {
+    pub ends: Ends,
+    pub patterns: Environment,
+    pub visible: Items<Name>,
+}
+
+/// Judges a tree where these variables are visible too.
+fn judge_seeing<W: Walk, L: Language>(
+    alloc: Global,
+    walk: &W,
+    language: &L,
+    context: &Context,
+    state: &mut State,
+    visible: &[Name],
+    body: &Tree,
+) -> Result<Ty, NoMemory>
+    ensures { IfOk result (λ ty. judged ty (seen_state state.new) ≡ spec.judge_of (L.the language.now) body.now (seeing visible.now (seen_context context.now)) (seen_state state.old)) }
+{
+    let inner = with_names(alloc, context, visible)?;
+    walk.judge(alloc, language, inner.of(context), state, body)
+}
+
+/// The type of what a clause catches.
+fn type_caught<L: Language>(
+    alloc: Global,
+    language: &L,
+    context: &Context,
+    clause: &Rescue<Tree>,
+) -> Result<Ty, NoMemory>
+    ensures { IfOk result (λ ty. ty ≡ guards_spec.caught_type (L.the language.now) (seen_context context.now) (known.known_trees (L.the language.now) clause.now.patterns)) }
+{
+    let spelled = spellings(alloc, language, clause.patterns.as_slice())?;
+    caught_type(alloc, language, &context.scope, spelled.as_slice())
+}
+
+/// Adds the variable behind the `=>` of a clause, if it has one.
+fn add_variable(variable: &Option<PlacedName>, visible: &mut Items<Name>) -> Result<(), NoMemory>
+    ensures { OnOk result (visible.new ≡ visible.old ++ guards_spec.caught_names variable.now) }
+{
+    match variable {
+        Some(variable) => visible.push(variable.name.copied()?),
+        None => Ok(()),
+    }
+}
+
+/// Adds the variables that are visible in the body of a clause.
+fn add_caught<L: Language>(
+    alloc: Global,
+    language: &L,
+    clause: &Rescue<Tree>,
+    visible: &mut Items<Name>,
+) -> Result<(), NoMemory>
+    ensures { OnOk result (visible.new ≡ (visible.old ++ all_declared (map part_operand (known.known_trees (L.the language.now) clause.now.patterns))) ++ guards_spec.caught_names clause.now.variable) }
+{
+    declare_all(alloc, language, clause.patterns.as_slice(), visible)?;
+    add_variable(&clause.variable, visible)
+}
+
+/// Assigns this type to the variable of a clause, if it has one.
+fn catch_type<L: Language>(
+    alloc: Global,
+    language: &L,
+    context: &Context,
+    variable: &Option<PlacedName>,
+    ty: &Ty,
+    state: &mut State,
+) -> Result<(), NoMemory>
+    ensures { OnOk result (seen_state state.new ≡ guards_spec.caught (L.the language.now) variable.now ty.now (seen_context context.now) (seen_state state.old)) }
+{
+    match variable {
+        None => Ok(()),
+        Some(x) => catch(alloc, language, context, Some(x), ty, state),
+    }
+}
+
+/// Assigns what a clause catches to its variable.
+fn catch_all<L: Language>(
+    alloc: Global,
+    language: &L,
+    context: &Context,
+    state: &mut State,
+    clause: &Rescue<Tree>,
+) -> Result<(), NoMemory>
+    ensures { OnOk result (seen_state state.new ≡ guards_spec.caught (L.the language.now) clause.now.variable (guards_spec.caught_type (L.the language.now) (seen_context context.now) (known.known_trees (L.the language.now) clause.now.patterns)) (seen_context context.now) (seen_state state.old)) }
+{
+    let ty = type_caught(alloc, language, context, clause)?;
+    catch_type(alloc, language, context, &clause.variable, &ty, state)
+}
+
+/// Assigns what a clause catches to its variable, behind its patterns. The context is that of the guard.
+fn behind_patterns<L: Language>(
+    alloc: Global,
+    language: &L,
+    context: &Context,
+    state: &mut State,
+    so_far: Rescuing,
+    clause: &Rescue<Tree>,
+) -> Result<Rescuing, NoMemory>
+    ensures { IfOk result (λ r. passed.seen_rescuing r (seen_state state.new) ≡ passed.caught_after (L.the language.now) (known.known_rescue (L.the language.now) clause.now) (seen_context context.now) (passed.seen_rescuing so_far (seen_state state.old)) (seen_state state.old)) }
+{
+    let Rescuing {
+        ends,
+        patterns: _,
+        mut visible,
+    } = so_far;
+    add_caught(alloc, language, clause, &mut visible)?;
+    let patterns = state.environment.copied(alloc)?;
+    catch_all(alloc, language, context, state, clause)?;
+    Ok(Rescuing {
+        ends,
+        patterns,
+        visible,
+    })
+}
+
+/// Judges the patterns of a `rescue` clause and assigns its variable. The context is that of the guard.
+pub fn caught<W: Walk, L: Language>(
+    alloc: Global,
+    walk: &W,
+    language: &L,
+    context: &Context,
+    state: &mut State,
+    so_far: Rescuing,
+    clause: &Rescue<Tree>,
+) -> Result<Rescuing, NoMemory>
+    ensures { IfOk result (λ r. passed.seen_rescuing r (seen_state state.new) ≡ passed.caught_by (L.the language.now) (known.known_rescue (L.the language.now) clause.now) (seen_context context.now) (passed.seen_rescuing so_far (seen_state state.old))) }
+{
+    let Rescuing {
+        ends,
+        patterns,
+        visible,
+    } = so_far;
+    let inner = with_names(alloc, context, visible.as_slice())?;
+    state.environment = patterns;
+    operands(
+        alloc,
+        walk,
+        language,
+        inner.of(context),
+        state,
+        clause.patterns.as_slice(),
+    )?;
+    let left = Rescuing {
+        ends,
+        patterns: Environment::Silent,
+        visible,
+    };
+    behind_patterns(alloc, language, context, state, left, clause)
+}
+
+/// Judges the body of a clause, whose patterns are judged.
+fn clause_body<W: Walk, L: Language>(
+    alloc: Global,
+    walk: &W,
+    language: &L,
+    context: &Context,
+    state: &mut State,
+    so_far: Rescuing,
+    body: &Tree,
+) -> Result<Rescuing, NoMemory>
+    ensures { IfOk result (λ r. passed.settled_rescuing (passed.seen_rescuing r (seen_state state.new)) ≡ passed.settled_rescuing (guards_spec.with_clause_end (L.the language.now) (passed.seen_rescuing so_far (seen_state state.old)) (seen_environment so_far.patterns) (so_far.visible ++ names_of (L.the language.now) false body.now)
+        (spec.judge_of (L.the language.now) body.now (seeing so_far.visible (seen_context context.now)) (seen_state state.old)))) }
+{
+    let Rescuing {
+        ends,
+        patterns,
+        mut visible,
+    } = so_far;
+    let ty = judge_seeing(
+        alloc,
+        walk,
+        language,
+        context,
+        state,
+        visible.as_slice(),
+        body,
+    )?;
+    assigned(alloc, language, false, body, &mut visible)?;
+    let ends = with_end(alloc, language, ends, ty, state)?;
+    Ok(Rescuing {
+        ends,
+        patterns,
+        visible,
+    })
+}
+
+/// Judges a `rescue` clause.
+pub fn clause<W: Walk, L: Language>(
+    alloc: Global,
+    walk: &W,
+    language: &L,
+    context: &Context,
+    state: &mut State,
+    so_far: Rescuing,
+    clause: &Rescue<Tree>,
+) -> Result<Rescuing, NoMemory>
+    ensures { IfOk result (λ r. passed.settled_rescuing (passed.seen_rescuing r (seen_state state.new)) ≡ passed.settled_rescuing (guards_spec.with_clauses (L.the language.now) (known.known_rescue (L.the language.now) clause.now ∷ []) (seen_context context.now) (passed.seen_rescuing so_far (seen_state state.old)))) }
+{
+    let found = caught(alloc, walk, language, context, state, so_far, clause)?;
+    clause_body(alloc, walk, language, context, state, found, &clause.body)
+}
+
+/// Judges `rescue` clauses.
+pub fn clauses<W: Walk, L: Language>(
+    alloc: Global,
+    walk: &W,
+    language: &L,
+    context: &Context,
+    state: &mut State,
+    so_far: Rescuing,
+    row: &[Rescue<Tree>],
+) -> Result<Rescuing, NoMemory>
+    ensures { IfOk result (λ r. passed.settled_rescuing (passed.seen_rescuing r (seen_state state.new)) ≡ passed.settled_rescuing (guards_spec.with_clauses (L.the language.now) (known.known_rescues (L.the language.now) row.now) (seen_context context.now) (passed.seen_rescuing so_far (seen_state state.old)))) }
+{
+    let mut rescuing = so_far;
+    'row: for each in row {
+        rescuing = clause(alloc, walk, language, context, state, rescuing, each)?;
+    }
+    Ok(rescuing)
+}
+
+/// With the end of the first body of a guard in front, which has no `else`.
+fn without_else<L: Language>(
+    alloc: Global,
+    language: &L,
+    state: &State,
+    so_far: Rescuing,
+    entry: Environment,
+    first: Ty,
+) -> Result<Rescuing, NoMemory>
+    ensures { IfOk result (λ r. passed.seen_rescuing r (seen_state state.now) ≡ guards_spec.with_first (L.the language.now) (passed.seen_rescuing so_far (seen_state state.now)) (seen_environment entry) first) }
+{
+    let Rescuing {
+        ends,
+        patterns,
+        visible,
+    } = so_far;
+    Ok(Rescuing {
+        ends: with_first_end(alloc, language, ends, entry, first)?,
+        patterns,
+        visible,
+    })
+}
+
+/// Judges the `else` of a guard in this environment.
+fn else_body<W: Walk, L: Language>(
+    alloc: Global,
+    walk: &W,
+    language: &L,
+    context: &Context,
+    state: &mut State,
+    so_far: Rescuing,
+    entry: Environment,
+    body: &Tree,
+) -> Result<Rescuing, NoMemory>
+    ensures { IfOk result (λ r. passed.settled_rescuing (passed.seen_rescuing r (seen_state state.new)) ≡ passed.settled_rescuing (guards_spec.with_else_end (L.the language.now) (passed.seen_rescuing so_far (seen_state state.old)) (so_far.visible ++ names_of (L.the language.now) false body.now)
+        (spec.judge_of (L.the language.now) body.now (seeing so_far.visible (seen_context context.now)) (moved (seen_environment entry) (seen_state state.old))))) }
+{
+    let Rescuing {
+        ends,
+        patterns,
+        mut visible,
+    } = so_far;
+    state.environment = entry;
+    let ty = judge_seeing(
+        alloc,
+        walk,
+        language,
+        context,
+        state,
+        visible.as_slice(),
+        body,
+    )?;
+    assigned(alloc, language, false, body, &mut visible)?;
+    let behind = state.take_environment();
+    let ends = with_first_end(alloc, language, ends, behind, ty)?;
+    Ok(Rescuing {
+        ends,
+        patterns,
+        visible,
+    })
+}
+
+/// Judges the `else` of a guard, perhaps a missing one, in the environment behind its first body, which has this type.
+pub fn guard_else<W: Walk, L: Language>(
+    alloc: Global,
+    walk: &W,
+    language: &L,
+    context: &Context,
+    state: &mut State,
+    so_far: Rescuing,
+    entry: Environment,
+    first: Ty,
+    otherwise: &Option<Tree>,
+) -> Result<Rescuing, NoMemory>
+    ensures { IfOk result (λ r. passed.settled_rescuing (passed.seen_rescuing r (seen_state state.new)) ≡ passed.settled_rescuing (guards_spec.with_else (L.the language.now) (known.known_option (L.the language.now) otherwise.now) (seen_context context.now) (judged first (moved (seen_environment entry) (seen_state state.old))) (passed.seen_rescuing so_far (seen_state state.old)))) }
+{
+    match otherwise {
+        None => without_else(alloc, language, state, so_far, entry, first),
+        Some(body) => else_body(alloc, walk, language, context, state, so_far, entry, body),
+    }
+}
+
+/// The variables that an `ensure` assigns and that outlive it.
+pub fn ensure_names<L: Language>(
+    alloc: Global,
+    language: &L,
+    context: &Context,
+    body: &Tree,
+) -> Result<Items<Name>, NoMemory>
+    ensures { IfOk result (λ names. names ≡ guards_spec.ensured_names (L.the language.now) (seen_context context.now) (known.part_in (L.the language.now) body.now).it) }
+{
+    let mut declares = Items::new(alloc);
+    assigned(alloc, language, false, body, &mut declares)?;
+    let mut assigns = Items::new(alloc);
+    assigned(alloc, language, true, body, &mut assigns)?;
+    names_ensured(alloc, context, declares.as_slice(), assigns.as_slice())
+}
+
+/// Judges the body of an `ensure`, by the environment at the guard's entry, and answers the type of the whole, which has these ends. The
+/// context is that behind all parts before it.
+pub fn ensure_body<W: Walk, L: Language>(
+    alloc: Global,
+    walk: &W,
+    language: &L,
+    context: &Context,
+    state: &mut State,
+    ends: Ends,
+    entry: &Environment,
+    body: &Tree,
+) -> Result<Ty, NoMemory>
+    ensures { IfOk result (λ ty. (r : guards_spec.Rescuing Ty) → r ≡ record r { ty = ends.ty; ends = seen_environment ends.environment; state = seen_state state.old }
+        → judged ty (seen_state state.new) ≡ guards_spec.after_ensure (L.the language.now) (known.part_in (L.the language.now) body.now) (seen_context context.now) r
+        (spec.judge_of (L.the language.now) body.now (seen_context context.now)
+        (record (seen_state state.old) { environment = guards_spec.handled (L.the language.now) (seen_environment entry.now) (seen_state state.old).assigned; breaks = []; nexts = [] }))) }
+{
+    let jumps = begin_ensure(alloc, language, entry, state)?;
+    walk.judge(alloc, language, context, state, body)?;
+    let names = ensure_names(alloc, language, context, body)?;
+    end_ensure(alloc, language, names.as_slice(), ends, jumps, state)
+}
+
+/// Judges an `ensure` by the environment at the guard's entry, and answers the type of the whole. The context is that of the guard.
+fn with_ensure<W: Walk, L: Language>(
+    alloc: Global,
+    walk: &W,
+    language: &L,
+    context: &Context,
+    state: &mut State,
+    so_far: Rescuing,
+    entry: &Environment,
+    body: &Tree,
+) -> Result<Ty, NoMemory>
+    ensures { IfOk result (λ ty. judged ty (seen_state state.new) ≡ guards_spec.with_ensure (L.the language.now) (Some (known.part_in (L.the language.now) body.now)) (seen_context context.now) (seen_environment entry.now) (passed.seen_rescuing so_far (seen_state state.old))) }
+{
+    let Rescuing {
+        ends,
+        patterns: _,
+        visible,
+    } = so_far;
+    let inner = with_names(alloc, context, visible.as_slice())?;
+    ensure_body(
+        alloc,
+        walk,
+        language,
+        inner.of(context),
+        state,
+        ends,
+        entry,
+        body,
+    )
+}
+
+/// Judges the `ensure` of a guard, perhaps a missing one, by the environment at the guard's entry, and answers the type of the whole.
+pub fn ensured<W: Walk, L: Language>(
+    alloc: Global,
+    walk: &W,
+    language: &L,
+    context: &Context,
+    state: &mut State,
+    so_far: Rescuing,
+    entry: &Environment,
+    ensure: &Option<Tree>,
+) -> Result<Ty, NoMemory>
+    ensures { IfOk result (λ ty. judged ty (seen_state state.new) ≡ guards_spec.with_ensure (L.the language.now) (known.known_option (L.the language.now) ensure.now) (seen_context context.now) (seen_environment entry.now) (passed.seen_rescuing so_far (seen_state state.old))) }
+{
+    match ensure {
+        None => Ok(all_ends(language, so_far.ends, state)),
+        Some(body) => with_ensure(alloc, walk, language, context, state, so_far, entry, body),
+    }
+}
+
+/// Judges what stands behind the first body of a guard, by the environment at the guard's entry and that behind the body, which has this
+/// type.
+fn behind_first<W: Walk, L: Language>(
+    alloc: Global,
+    walk: &W,
+    language: &L,
+    context: &Context,
+    state: &mut State,
+    start: Rescuing,
+    entry: &Environment,
+    behind: Environment,
+    first: Ty,
+    guarded: &Guarded<Tree>,
+) -> Result<Ty, NoMemory>
+    ensures { IfOk result (λ ty. judged ty (seen_state state.new) ≡ guards_spec.with_ensure (L.the language.now) (known.known_guarded (L.the language.now) guarded.now).ensure (seen_context context.now) (seen_environment entry.now)
+        (guards_spec.with_else (L.the language.now) (known.known_guarded (L.the language.now) guarded.now).otherwise (seen_context context.now) (judged first (moved (seen_environment behind) (seen_state state.old)))
+        (guards_spec.with_clauses (L.the language.now) (known.known_guarded (L.the language.now) guarded.now).rescues (seen_context context.now) (passed.seen_rescuing start (seen_state state.old))))) }
+{
+    let some = clauses(
+        alloc,
+        walk,
+        language,
+        context,
+        state,
+        start,
+        guarded.rescues.as_slice(),
+    )?;
+    let all = guard_else(
+        alloc,
+        walk,
+        language,
+        context,
+        state,
+        some,
+        behind,
+        first,
+        &guarded.otherwise,
+    )?;
+    ensured(
+        alloc,
+        walk,
+        language,
+        context,
+        state,
+        all,
+        entry,
+        &guarded.ensure,
+    )
+}
+
+/// Judges a body with its `rescue` clauses, `else` and `ensure`.
+pub fn guard<W: Walk, L: Language>(
+    alloc: Global,
+    walk: &W,
+    language: &L,
+    context: &Context,
+    state: &mut State,
+    guarded: &Guarded<Tree>,
+) -> Result<Ty, NoMemory>
+    ensures { IfOk result (λ ty. judged ty (seen_state state.new) ≡ guards_spec.guard_judged (L.the language.now) (known.known_guarded (L.the language.now) guarded.now) (seen_context context.now) (seen_state state.old)) }
+{
+    let aside = set_aside(alloc, state)?;
+    let first = walk.judge(alloc, language, context, state, &guarded.body)?;
+    let mut visible = Items::new(alloc);
+    assigned(alloc, language, false, &guarded.body, &mut visible)?;
+    let patterns = handled(
+        alloc,
+        language,
+        &aside.environment,
+        state.assigned.as_slice(),
+    )?;
+    let behind = state.take_environment();
+    let start = Rescuing {
+        ends: no_ends(language),
+        patterns,
+        visible,
+    };
+    let ty = behind_first(
+        alloc,
+        walk,
+        language,
+        context,
+        state,
+        start,
+        &aside.environment,
+        behind,
+        first,
+        guarded,
+    )?;
+    leave_guard(language, aside, &ty, state)?;
+    Ok(ty)
+}

@@ -1,0 +1,12 @@
+//! The order in which trees are judged: statements, literals of several trees, branches, loops, cases and guards.
+//!
+//! Each function judges one kind of tree, and is given what judges the trees in it (`srb_walk::walking::Walk`). `sequences` judges
+//! statements, arrays, hashes and strings with code, `branches` conditionals, `loops` `while` and `until`, `cases` `case`, and `guards`
+//! `begin` with `rescue`, `else` and `ensure`.
+#![tactic(auto)]
+
+pub mod branches;
+pub mod cases;
+pub mod guards;
+pub mod loops;
+pub mod sequences;
