@@ -1,0 +1,4 @@
+pub mod Bodying
+pub mod Bracketed
+pub mod Methods
+pub mod Several
