@@ -141,7 +141,7 @@ module _ (P : Span → Type 0) where
   keys-at [] h = tt
   keys-at (x ∷ xs) h = (h.0, keys-at xs h.1)
 
-  calls-stand : (k : Knowledge) → CallsStandAt P (language_of k)
+  pub calls-stand : (k : Knowledge) → CallsStandAt P (language_of k)
   calls-stand k s hr hp hk = call-stands (recv_of s) (args_of s) hr (args-at s.positional hp) (keys-at s.keys hk) (members_of k)
 
 pub calls_of_projects_stand : CallsOfProjectsStand

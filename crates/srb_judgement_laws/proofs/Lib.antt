@@ -1,6 +1,7 @@
 pub mod Branchings
 pub mod CallErrors
 pub mod Calls
+pub mod ErrorPlaces
 pub mod Fine
 pub mod Nodes
 pub mod Operations

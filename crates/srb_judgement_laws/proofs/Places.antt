@@ -36,13 +36,13 @@ use Rattle.srb_judgement_laws.proofs.Nodes.{part-fine, program-fine}
 
 -- ---- what is mapped twice
 
-twice-each : {A B C : Type 0} (S : B → Type 0) (Q : C → Type 0) (g : A → B) (f : B → C) → ((x : A) → S (g x) → Q (f (g x))) → (xs : List A) →
+pub twice-each : {A B C : Type 0} (S : B → Type 0) (Q : C → Type 0) (g : A → B) (f : B → C) → ((x : A) → S (g x) → Q (f (g x))) → (xs : List A) →
     Each S (map g xs) → Each Q (map f (map g xs))
 twice-each S Q g f h [] k = tt
 twice-each S Q g f h (x ∷ xs) k = (h x k.0, twice-each S Q g f h xs k.1)
 
 -- by whether a parameter has a default
-by-default : {X : Type 0} (Q : Parameter X → Type 0) →
+pub by-default : {X : Type 0} (Q : Parameter X → Type 0) →
     ((kind : ParamKind) (name : List ℕ) (span : Span) → Q (record { kind = kind; name = name; span = span; default = None })) →
     ((kind : ParamKind) (name : List ℕ) (span : Span) (d : X) → Q (record { kind = kind; name = name; span = span; default = Some d })) →
     (p : Parameter X) → Q p
@@ -53,7 +53,7 @@ by-default {X = X} Q h k p = go p.default
     go (Some d) = k p.kind p.name p.span d
 
 -- by what stands behind the clauses
-by-guarded : {X : Type 0} (Q : Guarded X → Type 0) →
+pub by-guarded : {X : Type 0} (Q : Guarded X → Type 0) →
     ((b : X) (rs : List (Rescue X)) → Q (record { body = b; rescues = rs; otherwise = None; ensure = None })) →
     ((b : X) (rs : List (Rescue X)) (e : X) → Q (record { body = b; rescues = rs; otherwise = None; ensure = Some e })) →
     ((b : X) (rs : List (Rescue X)) (o : X) → Q (record { body = b; rescues = rs; otherwise = Some o; ensure = None })) →

@@ -1,2 +1,3 @@
+pub mod ErrorPlaces
 pub mod Placed
 pub mod Projects

@@ -1,0 +1,3 @@
+pub mod ByNode
+mod Parts
+pub mod Programs

@@ -1,0 +1,2 @@
+pub mod ErrorPlaces
+pub mod TokenPlaces
