@@ -645,6 +645,6 @@ pub fn infer<L: Language>(alloc: Global, language: &L, tree: &Tree) -> Result<It
 /// How deep the nodes of most programs nest.
 const SHALLOW: u32 = 64;
 
-/// How deep the nodes of any program nest at most: what nests deeper than 200 is refused by the parser, and what nests once is at most
-/// some nodes in one another.
+/// How many levels are tried at most. The parser refuses what nests deeper than 200, and what nests once is a few nodes in one another; that
+/// this is enough for every program isn't proved.
 const DEEPEST: u32 = 2048;

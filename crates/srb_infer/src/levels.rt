@@ -1,7 +1,7 @@
 //! Levels of judgement: a tree is judged by what judges the trees in it, which nest one level less.
 //!
 //! Each function of the walk is given what judges the parts of a tree, and calls itself nowhere. `Levels` ties them: its first level judges a
-//! tree by the level below. So a program's depth is bounded by the levels that are made, and not by the stack.
+//! tree by the level below. So trees are judged to the depth of the levels that are made. Each level takes its part of the stack.
 
 use crate::conditions::test_node;
 use crate::walk::judge_node;

@@ -30,7 +30,7 @@ use Rattle.srb_walk.specs.Known.{known_suffixes}
 use Rattle.srb_walk.specs.Rows.{Prefix, all_suffixed}
 use Rattle.srb_walk.specs.Written.{row_spelling}
 
--- ---- what becomes visible in rows
+-- ---- forms of `T`, by the arguments that they take
 
 abbrev pub is_let : Form → Bool
 is_let form.Let = true
@@ -69,6 +69,8 @@ module _ {T X : Type 0} (L : Language T X) where
   form_judged f whole (argument.Positional e ∷ []) = plain_form f whole e
   form_judged f whole _ = λ c s. judged L.never s
 
+-- ---- constants in a row
+
 abbrev pub is_constant : {P : Type 0} → Suffix P → Bool
 is_constant (suffix.Call how name name_span arguments block span) = false
 is_constant (suffix.Constant name name_span span) = true
@@ -81,7 +83,7 @@ constants_before (suffix.Call how name name_span arguments block span ∷ rest) 
 constants_before (suffix.Constant name name_span span ∷ rest) = suc (constants_before rest)
 constants_before (suffix.Index arguments span ∷ rest) = 0
 
--- ---- forms of `T`
+-- ---- which form of `T` a call is
 
 abbrev pub counted : {P : Type 0} → List (Argument P) → Count
 counted (argument.Positional e ∷ []) = count.One
@@ -161,5 +163,6 @@ module _ {T X : Type 0} (L : Language T X) where
   sent_by form.Call o how name place arguments b whole = call_operand L o how name place arguments b
   sent_by f o how name place arguments b whole = form_judged L f whole arguments
 
+-- what was judged of a row so far, with the state after it
 abbrev pub seen_row : rowed.Row → State Ty → Prefix Ty
 seen_row r s = record { declares = r.declares; it = judged r.ty s }
