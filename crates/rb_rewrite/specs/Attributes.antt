@@ -3,6 +3,7 @@ use Rattle.std.specs.Prelude.{ℕ, false, List, [], ◌∷◌, ◌++◌, codes, 
 use Rattle.srb_terms.specs.declared.param_kind.ParamKind.TheVariants as param
 use Rattle.srb_terms.specs.declared.span.Span.{Span}
 use Rattle.rb_tree.specs.Nodes as tree
+use Rattle.rb_tree.specs.Trees.{span_of}
 use Rattle.rb_tree.specs.declared.syntax.Argument.{Argument}
 use Rattle.rb_tree.specs.declared.syntax.Argument.TheVariants as argument
 use Rattle.rb_tree.specs.declared.syntax.Block.{Block}
@@ -48,11 +49,12 @@ abbrev pub writer : List ℕ → Span → Tree
 writer name span =
     tree.Def None false (name ++ codes "=") span (writer_parameter name span ∷ []) (body_of (assignment name span) span) span
 
--- ---- the signature of an accessor's writer: the chain with `params(x: X)` put first, where it has `returns(X)`
+-- ---- the signature of an accessor's writer: the chain with `params(x: X)` put first, where it has `returns(X)`. It stands where the chain's
+-- first call does
 
--- `params(x: X)`
-abbrev pub params_call : List ℕ → Span → Tree → Tree
-params_call name span type = tree.Call (codes "params") span (Some (argument.Keyword name span type ∷ [])) None span
+-- `params(x: X)` at a place
+abbrev pub params_call : List ℕ → Tree → Span → Tree
+params_call name type span = tree.Call (codes "params") span (Some (argument.Keyword name span type ∷ [])) None span
 
 abbrev pub as_suffix_at : {X : Type 0} → Node-F X Tree → Option (Suffix Tree)
 as_suffix_at (Node-F.Name name span) = Some (suffix.Call dot.Plain name span None None span)
@@ -68,39 +70,39 @@ abbrev pub after_first : Tree → Option (Suffix Tree) → List (Suffix Tree) �
 after_first first None suffixes span = None
 after_first first (Some s) suffixes span = Some (tree.Post first (s ∷ suffixes) span)
 
-abbrev pub row_after_at : Tree → Tree → Node-F Node Tree → Option Tree
-row_after_at first t (Node-F.Name name span) = after_first first (as_suffix t) [] span
-row_after_at first t (Node-F.Call name name_span arguments block span) = after_first first (as_suffix t) [] span
-row_after_at first t (Node-F.Post receiver suffixes span) = after_first first (as_suffix receiver) suffixes span
+abbrev pub row_after_at : (Span → Tree) → Tree → Node-F Node Tree → Option Tree
+row_after_at first t (Node-F.Name name span) = after_first (first span) (as_suffix t) [] span
+row_after_at first t (Node-F.Call name name_span arguments block span) = after_first (first span) (as_suffix t) [] span
+row_after_at first t (Node-F.Post receiver suffixes span) = after_first (first (span_of receiver)) (as_suffix receiver) suffixes span
 row_after_at first t _ = None
 
 -- a chain in which each call with arguments has brackets, after `first`
-unfoldable pub row_after : Tree → Tree → Option Tree
+unfoldable pub row_after : (Span → Tree) → Tree → Option Tree
 row_after first t = row_after_at first t (out-Node t.node)
 
 abbrev pub command_of : List (Argument Tree) → Option (Block Tree) → Span → Tree → Tree
 command_of arguments block span callee = tree.Command callee arguments block span
 
-abbrev pub chain_after_at : Tree → Tree → Node-F Node Tree → Option Tree
+abbrev pub chain_after_at : (Span → Tree) → Tree → Node-F Node Tree → Option Tree
 chain_after_at first t (Node-F.Command callee arguments block span) = option_map (command_of arguments block span) (row_after first callee)
 chain_after_at first t _ = row_after first t
 
 -- a chain after `first`
-unfoldable pub chain_after : Tree → Tree → Option Tree
+unfoldable pub chain_after : (Span → Tree) → Tree → Option Tree
 chain_after first t = chain_after_at first t (out-Node t.node)
 
-abbrev pub body_after_at : {X : Type 0} → Tree → Node-F X Tree → Option Tree
+abbrev pub body_after_at : {X : Type 0} → (Span → Tree) → Node-F X Tree → Option Tree
 body_after_at first (Node-F.Body (statement ∷ []) span) = option_map (body_with span) (chain_after first statement)
 body_after_at first _ = None
 
 -- a body of one chain, after `first`
-unfoldable pub body_after : Tree → Tree → Option Tree
+unfoldable pub body_after : (Span → Tree) → Tree → Option Tree
 body_after first body = body_after_at first (out-Node body.node)
 
 abbrev pub block_with : Block Tree → Tree → Block Tree
 block_with block body = record { parameters = block.parameters; body = body; span = block.span }
 
-abbrev pub block_after : Tree → Option (Block Tree) → Option (Block Tree)
+abbrev pub block_after : (Span → Tree) → Option (Block Tree) → Option (Block Tree)
 block_after first None = None
 block_after first (Some block) = option_map (block_with block) (body_after first block.body)
 
@@ -110,13 +112,13 @@ call_with name name_span arguments span block = tree.Call name name_span argumen
 abbrev pub command_with : Tree → List (Argument Tree) → Span → Block Tree → Tree
 command_with callee arguments span block = tree.Command callee arguments (Some block) span
 
-abbrev pub sig_after_at : {X : Type 0} → Tree → Node-F X Tree → Option Tree
+abbrev pub sig_after_at : {X : Type 0} → (Span → Tree) → Node-F X Tree → Option Tree
 sig_after_at first (Node-F.Call name name_span arguments block span) = option_map (call_with name name_span arguments span) (block_after first block)
 sig_after_at first (Node-F.Command callee arguments block span) = option_map (command_with callee arguments span) (block_after first block)
 sig_after_at first _ = None
 
 -- a `sig` statement whose chain stands after `first`
-unfoldable pub sig_after : Tree → Tree → Option Tree
+unfoldable pub sig_after : (Span → Tree) → Tree → Option Tree
 sig_after first sig = sig_after_at first (out-Node sig.node)
 
 -- the X of `returns(X)`
@@ -131,13 +133,13 @@ abbrev pub or_else : Tree → Option Tree → Tree
 or_else t None = t
 or_else t (Some u) = u
 
-abbrev pub writer_sig_of : List ℕ → Span → Tree → Option Tree → Tree
-writer_sig_of name span sig None = sig
-writer_sig_of name span sig (Some type) = or_else sig (sig_after (params_call name span type) sig)
+abbrev pub writer_sig_of : List ℕ → Tree → Option Tree → Tree
+writer_sig_of name sig None = sig
+writer_sig_of name sig (Some type) = or_else sig (sig_after (params_call name type) sig)
 
 -- the signature of the writer of an accessor
-abbrev pub writer_sig : List ℕ → Span → Tree → Tree
-writer_sig name span sig = writer_sig_of name span sig (returned_of sig)
+abbrev pub writer_sig : List ℕ → Tree → Tree
+writer_sig name sig = writer_sig_of name sig (returned_of sig)
 
 -- ---- statements, after those so far. Where a `sig` statement stands before the attribute, one stands before each method
 
@@ -153,7 +155,7 @@ abbrev pub with_attribute : Attribute → Option Tree → List ℕ → Span → 
 with_attribute Reader sig name span so_far = with_method so_far sig (reader name span)
 with_attribute Writer sig name span so_far = with_method so_far sig (writer name span)
 with_attribute Accessor sig name span so_far =
-    with_method (with_method so_far sig (reader name span)) (option_map (writer_sig name span) sig) (writer name span)
+    with_method (with_method so_far sig (reader name span)) (option_map (writer_sig name) sig) (writer name span)
 
 abbrev pub with_symbol_at : {X Y : Type 0} → Attribute → Option Tree → List Tree → Node-F X Y → List Tree
 with_symbol_at kind sig so_far (Node-F.Symbol words span) = with_attribute kind sig words span so_far

@@ -128,9 +128,9 @@ fn writer(alloc: Global, name: &Name, span: Span) -> Result<Tree, NoMemory>
     Tree::new(alloc, node)
 }
 
-/// `params(x: X)`
-fn params_call(alloc: Global, name: &Name, span: Span, given: &Tree) -> Result<Tree, NoMemory>
-    ensures { IfOk result (λ t. t ≡ spec.params_call name.now span given.now) }
+/// `params(x: X)` at a place.
+fn params_call(alloc: Global, name: &Name, given: &Tree, span: Span) -> Result<Tree, NoMemory>
+    ensures { IfOk result (λ t. t ≡ spec.params_call name.now given.now span) }
 {
     let argument = Argument::Keyword {
         name: name.copied()?,
@@ -197,19 +197,19 @@ fn with_following(
 /// A call, and the calls that follow it, after `first`.
 fn after_first(
     alloc: Global,
-    first: &Tree,
+    first: Tree,
     call: Option<Suffix<Tree>>,
     following: &[Suffix<Tree>],
     span: Span,
 ) -> Result<Option<Tree>, NoMemory>
-    ensures { IfOk result (λ t. t ≡ spec.after_first first.now call following.now span) }
+    ensures { IfOk result (λ t. t ≡ spec.after_first first call following.now span) }
 {
     match call {
         None => Ok(None),
         Some(call) => {
             let suffixes = with_following(alloc, call, following)?;
             let node = Node::Post {
-                receiver: first.copied()?,
+                receiver: first,
                 suffixes,
                 span,
             };
@@ -218,26 +218,35 @@ fn after_first(
     }
 }
 
-/// A chain in which each call with arguments has brackets, after `first`.
+/// A chain in which each call with arguments has brackets, after `params(x: X)`.
 #[tactic(auto, unfolding(crate::specs::Attributes::row_after))]
-fn row_after(alloc: Global, first: &Tree, tree: &Tree) -> Result<Option<Tree>, NoMemory>
-    ensures { IfOk result (λ t. t ≡ spec.row_after first.now tree.now) }
+fn row_after(
+    alloc: Global,
+    name: &Name,
+    given: &Tree,
+    tree: &Tree,
+) -> Result<Option<Tree>, NoMemory>
+    ensures { IfOk result (λ t. t ≡ spec.row_after (spec.params_call name.now given.now) tree.now) }
 {
     match tree.get() {
         Node::Name { span, .. } | Node::Call { span, .. } => {
+            let first = params_call(alloc, name, given, *span)?;
             after_first(alloc, first, as_suffix(alloc, tree)?, &[], *span)
         }
         Node::Post {
             receiver,
             suffixes,
             span,
-        } => after_first(
-            alloc,
-            first,
-            as_suffix(alloc, receiver)?,
-            suffixes.as_slice(),
-            *span,
-        ),
+        } => {
+            let first = params_call(alloc, name, given, receiver.span())?;
+            after_first(
+                alloc,
+                first,
+                as_suffix(alloc, receiver)?,
+                suffixes.as_slice(),
+                *span,
+            )
+        }
         _ => Ok(None),
     }
 }
@@ -266,10 +275,15 @@ fn command_of(
     }
 }
 
-/// A chain after `first`.
+/// A chain after `params(x: X)`.
 #[tactic(auto, unfolding(crate::specs::Attributes::chain_after))]
-fn chain_after(alloc: Global, first: &Tree, tree: &Tree) -> Result<Option<Tree>, NoMemory>
-    ensures { IfOk result (λ t. t ≡ spec.chain_after first.now tree.now) }
+fn chain_after(
+    alloc: Global,
+    name: &Name,
+    given: &Tree,
+    tree: &Tree,
+) -> Result<Option<Tree>, NoMemory>
+    ensures { IfOk result (λ t. t ≡ spec.chain_after (spec.params_call name.now given.now) tree.now) }
 {
     match tree.get() {
         Node::Command {
@@ -278,10 +292,10 @@ fn chain_after(alloc: Global, first: &Tree, tree: &Tree) -> Result<Option<Tree>,
             block,
             span,
         } => {
-            let callee = row_after(alloc, first, callee)?;
+            let callee = row_after(alloc, name, given, callee)?;
             command_of(alloc, arguments.as_slice(), block, *span, callee)
         }
-        _ => row_after(alloc, first, tree),
+        _ => row_after(alloc, name, given, tree),
     }
 }
 
@@ -295,15 +309,20 @@ fn body_if(alloc: Global, statement: Option<Tree>, span: Span) -> Result<Option<
     }
 }
 
-/// A body of one chain, after `first`.
+/// A body of one chain, after `params(x: X)`.
 #[tactic(auto, unfolding(crate::specs::Attributes::body_after))]
-fn body_after(alloc: Global, first: &Tree, body: &Tree) -> Result<Option<Tree>, NoMemory>
-    ensures { IfOk result (λ t. t ≡ spec.body_after first.now body.now) }
+fn body_after(
+    alloc: Global,
+    name: &Name,
+    given: &Tree,
+    body: &Tree,
+) -> Result<Option<Tree>, NoMemory>
+    ensures { IfOk result (λ t. t ≡ spec.body_after (spec.params_call name.now given.now) body.now) }
 {
     match body.get() {
         Node::Body { statements, span } => match statements.as_slice() {
             [statement] => {
-                let statement = chain_after(alloc, first, statement)?;
+                let statement = chain_after(alloc, name, given, statement)?;
                 body_if(alloc, statement, *span)
             }
             _ => Ok(None),
@@ -333,19 +352,20 @@ fn block_with(
     }
 }
 
-/// A block whose chain stands after `first`.
+/// A block whose chain stands after `params(x: X)`.
 fn block_after(
     alloc: Global,
-    first: &Tree,
+    name: &Name,
+    given: &Tree,
     block: &Option<Boxed<Block<Tree>>>,
 ) -> Result<Option<Boxed<Block<Tree>>>, NoMemory>
-    ensures { IfOk result (λ b. b ≡ spec.block_after first.now block.now) }
+    ensures { IfOk result (λ b. b ≡ spec.block_after (spec.params_call name.now given.now) block.now) }
 {
     match block {
         None => Ok(None),
         Some(block) => {
             let block = block.get();
-            let body = body_after(alloc, first, &block.body)?;
+            let body = body_after(alloc, name, given, &block.body)?;
             block_with(alloc, block, body)
         }
     }
@@ -401,21 +421,21 @@ fn command_with(
     }
 }
 
-/// A `sig` statement whose chain stands after `first`. `None` exactly where it has no chain.
+/// A `sig` statement whose chain stands after `params(x: X)`. `None` exactly where it has no chain.
 #[tactic(auto, unfolding(crate::specs::Attributes::sig_after))]
-fn sig_after(alloc: Global, first: &Tree, sig: &Tree) -> Result<Option<Tree>, NoMemory>
-    ensures { IfOk result (λ t. t ≡ spec.sig_after first.now sig.now) }
+fn sig_after(alloc: Global, name: &Name, given: &Tree, sig: &Tree) -> Result<Option<Tree>, NoMemory>
+    ensures { IfOk result (λ t. t ≡ spec.sig_after (spec.params_call name.now given.now) sig.now) }
 {
     match sig.get() {
         Node::Call {
-            name,
+            name: word,
             name_span,
             arguments,
             block,
             span,
         } => {
-            let block = block_after(alloc, first, block)?;
-            call_with(alloc, name, *name_span, arguments, *span, block)
+            let block = block_after(alloc, name, given, block)?;
+            call_with(alloc, word, *name_span, arguments, *span, block)
         }
         Node::Command {
             callee,
@@ -423,7 +443,7 @@ fn sig_after(alloc: Global, first: &Tree, sig: &Tree) -> Result<Option<Tree>, No
             block,
             span,
         } => {
-            let block = block_after(alloc, first, block)?;
+            let block = block_after(alloc, name, given, block)?;
             command_with(alloc, callee, arguments.as_slice(), *span, block)
         }
         _ => Ok(None),
@@ -451,15 +471,12 @@ fn or_else(tree: &Tree, other: Option<Tree>) -> Result<Tree, NoMemory>
 }
 
 /// The signature of the writer of an accessor: the chain with `params(x: X)` put first, where it has `returns(X)`.
-fn writer_sig(alloc: Global, name: &Name, span: Span, sig: &Tree) -> Result<Tree, NoMemory>
-    ensures { IfOk result (λ t. t ≡ spec.writer_sig name.now span sig.now) }
+fn writer_sig(alloc: Global, name: &Name, sig: &Tree) -> Result<Tree, NoMemory>
+    ensures { IfOk result (λ t. t ≡ spec.writer_sig name.now sig.now) }
 {
     match returned_of(sig) {
         None => sig.copied(),
-        Some(given) => {
-            let params = params_call(alloc, name, span, given)?;
-            or_else(sig, sig_after(alloc, &params, sig)?)
-        }
+        Some(given) => or_else(sig, sig_after(alloc, name, given, sig)?),
     }
 }
 
@@ -509,12 +526,12 @@ fn with_accessor_writer(
     span: Span,
     so_far: &mut Items<Tree>,
 ) -> Result<(), NoMemory>
-    ensures { OnOk result (so_far.new ≡ spec.with_method so_far.old (option_map (spec.writer_sig name.now span) (option_copied sig.entry)) (spec.writer name.now span)) }
+    ensures { OnOk result (so_far.new ≡ spec.with_method so_far.old (option_map (spec.writer_sig name.now) (option_copied sig.entry)) (spec.writer name.now span)) }
 {
     match sig {
         None => with_writer(alloc, None, name, span, so_far),
         Some(sig) => {
-            let own = writer_sig(alloc, name, span, sig)?;
+            let own = writer_sig(alloc, name, sig)?;
             with_writer(alloc, Some(&own), name, span, so_far)
         }
     }

@@ -17,6 +17,7 @@ use Rattle.srb_terms.specs.declared.fact.Fact.{Fact}
 use Rattle.srb_terms.specs.declared.world.World.{World}
 use Rattle.srb_builtin.specs.Table.{built_in}
 use Rattle.srb_rules.specs.Standing.{Stands}
+use Rattle.srb_table.specs.Names.{TellsMembers}
 use Rattle.srb_table.specs.Steps.{all_facts, facts_of}
 use Rattle.srb_check.specs.declared.file.FileRec.{FileRec}
 use Rattle.srb_check.specs.Jobs.{AreLoaded, AreRecords, Held, IsJobOf, IsJobWith, IsLoaded, Known, bytes_of_file, facts_by, facts_in, path_of_file, record_of_file, summary_of}
@@ -169,13 +170,15 @@ same_bytes r text bytes is has spelled =
 
 -- ---- the job of all
 pub job_stands : (project : List File) (self held : Held) (summaries : List (List Fact)) (world : World) (job : Known) → AreLoaded project self
-    → held ≡ self → summaries ≡ map summary_of held.records → Stands world (facts_of built_in summaries)
+    → held ≡ self → summaries ≡ map summary_of held.records → Stands world (facts_of built_in summaries) → TellsMembers world (facts_of built_in summaries)
     → job ≡ record { world = world; files = held } → IsJobOf project job
 unfolding project_facts
-job_stands project self held summaries world job are same told stands is =
+job_stands project self held summaries world job are same told stands tells is =
+    let all = told ∙ ap (λ (h : Held). map summary_of h.records) same ∙ ap (map summary_of) are.records ∙ summaries-facts project in
     subst (IsJobOf project) (sym is) (record {
       files = subst (AreLoaded project) (sym same) are;
-      table = subst (λ s. Stands world (facts_of built_in s)) (told ∙ ap (λ (h : Held). map summary_of h.records) same ∙ ap (map summary_of) are.records ∙ summaries-facts project) stands;
+      table = subst (λ s. Stands world (facts_of built_in s)) all stands;
+      members = subst (λ s. TellsMembers world (facts_of built_in s)) all tells;
     })
 
 -- ---- files that are edited
@@ -202,6 +205,7 @@ job_again project old self held world before job are known facts same table is =
     subst (IsJobOf project) (sym is) (record {
       files = subst (AreLoaded project) (sym same) are;
       table = subst (λ w. Stands w (project_facts project)) (sym table) (subst (Stands before.world) (sym facts) known.table);
+      members = subst (λ w. TellsMembers w (project_facts project)) (sym table) (subst (TellsMembers before.world) (sym facts) known.members);
     })
 
 -- ---- the facts that files declare

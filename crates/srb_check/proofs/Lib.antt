@@ -1,7 +1,7 @@
 pub mod Places
-pub mod JudgedStatements
 pub mod Loads
 pub mod FactLists
 pub mod Jobs
 pub mod PlacePositions
 pub mod ArrangedErrors
+pub mod TypeErrors

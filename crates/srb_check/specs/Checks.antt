@@ -1,5 +1,5 @@
 -- The errors of a file under the facts of its project, found by the tests of a file in their order: its size, its form, its level, its
--- tokens, its tree, and then what its declarations, constants, signatures and statements say.
+-- tokens, its tree, and then what its declarations, constants and signatures say, and the judgement of its types.
 use Rattle.std.specs.Prelude.{ℕ, nat_lt, if◌then◌else◌, List, [], ◌∷◌, ◌++◌, length, Option, Some, None}
 use Rattle.std.specs.Str.{chars, is_utf8}
 use Rattle.srb_terms.specs.declared.diag.Diag.{Diag}
@@ -11,20 +11,16 @@ use Rattle.rb_lex.specs.Levels.{level_of_text}
 use Rattle.srb_check.specs.declared.reading.Reading.{Reading}
 use Rattle.srb_check.specs.declared.reading.Reading.TheVariants.{Program, Refused}
 use Rattle.srb_check.specs.Arranged.{arranged}
-use Rattle.srb_check.specs.Built.{built}
-use Rattle.srb_check.specs.Levels.{LARGEST_FILE, hides_all, shows_types}
-use Rattle.srb_check.specs.Messages.{too_large, not_utf8, judged}
+use Rattle.srb_check.specs.Levels.{LARGEST_FILE, hides_all}
+use Rattle.srb_check.specs.Messages.{too_large, not_utf8}
 use Rattle.srb_check.specs.Readings.{read}
 use Rattle.srb_check.specs.Symbols.{project_facts, symbol_errors}
-
--- the errors of types in a program, where the level shows them
-abbrev pub type_errors : Level → Tree → List Diag
-type_errors level tree = if shows_types level then judged (built tree) else []
+use Rattle.srb_check.specs.Types.{type_errors}
 
 -- the errors of a text that is read, by its level: that of its tokens, or those of its tree, in order
 abbrev pub reading_errors : List Fact → Level → Reading → List Diag
 reading_errors facts level (Refused error) = error ∷ []
-reading_errors facts level (Program tree) = arranged (symbol_errors facts level tree ++ type_errors level tree)
+reading_errors facts level (Program tree) = arranged (symbol_errors facts level tree ++ type_errors facts level tree)
 
 -- the errors of a text: none at `ignore`
 abbrev pub text_errors : List Fact → List ℕ → List Diag

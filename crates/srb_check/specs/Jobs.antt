@@ -4,6 +4,7 @@ use Rattle.srb_rules.specs.Standing.{Stands}
 use Rattle.srb_terms.specs.Projects.{File, IsProject, bytes_at}
 use Rattle.srb_terms.specs.declared.fact.Fact.{Fact}
 use Rattle.srb_terms.specs.declared.world.World.{World}
+use Rattle.srb_table.specs.Names.{TellsMembers}
 use Rattle.srb_check.specs.declared.file.FileRec.{FileRec}
 use Rattle.srb_check.specs.Records.{loaded}
 use Rattle.srb_check.specs.Symbols.{file_facts, project_facts}
@@ -46,10 +47,11 @@ pub record AreLoaded (project : List File) (held : Held) : Type 0 where
   pub paths : held.paths ≡ map path_of_file project
   pub records : held.records ≡ map record_of_file project
 
--- it is what is known of this project: its files were loaded, and the symbol table stands for its facts
+-- it is what is known of this project: its files were loaded, and the symbol table stands for its facts and tells their members
 pub record IsJobOf (project : List File) (job : Known) : Type 0 where
   pub files : AreLoaded project job.files
   pub table : Stands job.world (project_facts project)
+  pub members : TellsMembers job.world (project_facts project)
 
 -- ---- files that are edited
 

@@ -15,14 +15,6 @@ hides_all True = false
 hides_all Strict = false
 hides_all Strong = false
 
--- whether a level shows the errors of types
-abbrev pub shows_types : Level → Bool
-shows_types Ignore = false
-shows_types False = false
-shows_types True = true
-shows_types Strict = true
-shows_types Strong = true
-
 -- whether methods need signatures at a level
 abbrev pub needs_signatures : Level → Bool
 needs_signatures Ignore = false

@@ -1,10 +1,10 @@
 pub mod Arranged
 pub mod Characters
-pub mod Built
 pub mod Levels
 pub mod Messages
 pub mod Readings
 pub mod Symbols
+pub mod Types
 pub mod FactLists
 pub mod Checks
 pub mod Records

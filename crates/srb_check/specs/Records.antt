@@ -12,11 +12,11 @@ use Rattle.srb_check.specs.declared.file.FileRec.{FileRec}
 use Rattle.srb_check.specs.declared.reading.Reading.{Reading}
 use Rattle.srb_check.specs.declared.reading.Reading.TheVariants.{Program, Refused}
 use Rattle.srb_check.specs.Arranged.{arranged}
-use Rattle.srb_check.specs.Checks.{type_errors}
 use Rattle.srb_check.specs.Levels.{LARGEST_FILE, hides_all}
 use Rattle.srb_check.specs.Messages.{too_large, not_utf8}
 use Rattle.srb_check.specs.Readings.{read}
 use Rattle.srb_check.specs.Symbols.{symbol_errors}
+use Rattle.srb_check.specs.Types.{type_errors}
 
 -- the record of a file that is not read as a text
 abbrev pub unread : Diag → FileRec
@@ -44,7 +44,7 @@ loaded bytes =
 -- the errors of a tree under these facts, where there is a tree
 abbrev pub tree_errors : List Fact → Level → Option Tree → List Diag
 tree_errors facts level None = []
-tree_errors facts level (Some tree) = arranged (symbol_errors facts level tree ++ type_errors level tree)
+tree_errors facts level (Some tree) = arranged (symbol_errors facts level tree ++ type_errors facts level tree)
 
 abbrev pub errors_by : List Fact → Level → Option Tree → Option Diag → List Diag
 errors_by facts level tree (Some error) = error ∷ []

@@ -9,14 +9,14 @@
 //! For a single file `load` gives the record `loaded`, and `check_file` the errors `errors_of` of a file that was loaded so. `push_report`
 //! adds the lines `file_report`.
 //!
-//! The errors of declarations and of constants are found in every program. Those of types are found so far in programs whose statements are
-//! literals, `T.let` and `T.reveal_type` on literals, and assignments of these to variables.
+//! The errors of declarations, constants, type expressions and signatures come from the program's tree, and those of types from the judgement
+//! of the tree after the rewriting of attributes and initializers (`specs/Types.antt`). A program of a level that shows no error of types
+//! isn't judged.
 #![tactic(auto)]
 
 mod arranged;
 #[cfg(test)]
 mod arranged_tests;
-mod built;
 mod characters;
 mod checking;
 mod errors;
@@ -24,7 +24,6 @@ mod file;
 mod files;
 mod fresh_check;
 mod job;
-mod judging;
 pub mod laws;
 mod loading;
 mod place;

@@ -85,8 +85,46 @@ fn errors_stand_in_order(rt: HostRuntime) -> Result<(), Fail> {
                 "a:1:11: 5002 constant X not found\na:3:8: 9004 C is already a class\na:5:1: 5002 constant Y not found\n",
             ),
             (
-                &[("a", "# typed: true\nX\n")],
-                "a:1:1: 9000 not built yet\na:2:1: 5002 constant X not found\n",
+                &[(
+                    "a",
+                    "# typed: true\nT.reveal_type(1)\nX\nT.reveal_type(1)\n",
+                )],
+                "a:2:1: 7014 type is Integer\na:3:1: 5002 constant X not found\na:4:1: 7014 type is Integer\n",
+            ),
+        ],
+    )
+}
+
+#[test]
+fn types_go_by_the_facts_of_all_files(rt: HostRuntime) -> Result<(), Fail> {
+    all_reported(
+        &rt,
+        &[
+            (
+                &[
+                    (
+                        "a",
+                        "class A\n  def m\n    @x = T.let(1, Integer)\n  end\nend\n",
+                    ),
+                    (
+                        "b",
+                        "# typed: true\nclass A\n  def n\n    T.reveal_type(@x)\n    @x = nil\n  end\nend\n",
+                    ),
+                ],
+                "b:4:5: 7014 type is Integer\nb:5:10: 7007 expected Integer, found NilClass\n",
+            ),
+            (
+                &[
+                    (
+                        "a",
+                        "# typed: true\nclass A\n  extend T::Sig\n  sig { returns(Integer) }\n  def m\n    \"a\"\n  end\nend\nT.reveal_type(A.new.m)\n",
+                    ),
+                    (
+                        "b",
+                        "# typed: true\nclass A\n  extend T::Sig\n  sig { returns(String) }\n  def m\n    \"a\"\n  end\nend\n",
+                    ),
+                ],
+                "a:6:5: 7005 result expects Integer, found String\na:9:1: 7014 type is String\n",
             ),
         ],
     )

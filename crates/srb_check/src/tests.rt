@@ -57,7 +57,7 @@ fn texts_that_are_no_program(rt: HostRuntime) -> Result<(), Fail> {
 }
 
 #[test]
-fn built_trees(rt: HostRuntime) -> Result<(), Fail> {
+fn types_of_programs(rt: HostRuntime) -> Result<(), Fail> {
     all_reported(
         &rt,
         &[
@@ -92,67 +92,53 @@ fn built_trees(rt: HostRuntime) -> Result<(), Fail> {
             ("class A; end", ""),
             (
                 "# typed: true\nT.let(1, String)\nclass A; end",
-                "f:1:1: 9000 not built yet\n",
+                "f:2:7: 7007 expected String, found Integer\n",
+            ),
+            (
+                "# typed: true\nx = nil\nwhile T.unsafe(true)\n  x = 1\nend\nT.reveal_type(x)\n",
+                "f:4:7: 7001 variable x stays NilClass in a loop or block, found Integer\nf:6:1: 7014 type is NilClass\n",
             ),
         ],
     )
 }
 
-/// Statements of trees that aren't built.
-const NOT_BUILT: [&str; 35] = [
-    "f(-1)",
-    "1234567890123456789",
-    "-1",
-    "+1",
-    "1_0",
-    "0x1",
-    "1.0",
-    "\"a#{1}\"",
-    "\"a\\n\"",
-    "'é'",
-    "\"a\tb\"",
-    ":a",
-    "[1]",
-    "(1)",
-    "T",
-    "T.let",
-    "T.let(1)",
-    "T.let(1, Float)",
-    "T.let(1, ::Integer)",
-    "T.let(1, Integer, 2)",
-    "T.let(1, a: Integer)",
-    "T.let(T.let(1, Integer), Integer)",
-    "T.let(1, Integer).a",
-    "T.let(1, Integer) { }",
-    "T.reveal_type(1, 2)",
-    "T.reveal_type(x)",
-    "T.bind(1, Integer)",
-    "T&.let(1, Integer)",
-    "t.let(1, Integer)",
-    "::T.let(1, Integer)",
-    "xY = 1",
-    "@x = 1",
-    "1 if true",
-    "begin\n  f\nrescue StandardError => e\n  g\nelse\n  h\nensure\n  i\nend",
-    "def m\n  f\nrescue\n  g\nend",
-];
+#[test]
+fn levels_show_errors_of_types(rt: HostRuntime) -> Result<(), Fail> {
+    all_reported(
+        &rt,
+        &[
+            ("# typed: false\nx = 1\nx.nope\n@x\n", ""),
+            (
+                "# typed: true\nx = 1\nx.nope\n@x\n",
+                "f:3:3: 7003 method nope does not exist on Integer\n",
+            ),
+            (
+                "# typed: strict\n@x\nx = T.unsafe(1)\nx.foo\n",
+                "f:2:1: 6002 instance variable @x is not declared\n",
+            ),
+            (
+                "# typed: strong\nx = T.unsafe(1)\nx.foo\n",
+                "f:3:3: 7018 call of foo on an untyped receiver\n",
+            ),
+        ],
+    )
+}
 
 #[test]
-fn trees_that_are_not_built(rt: HostRuntime) -> Result<(), Fail> {
-    let alloc = rt.alloc();
-    for statement in NOT_BUILT {
-        assert!(rt;
-            reported(alloc, statement.as_bytes())?.is_empty(),
-            "{statement}"
-        );
-        let source = format!(in alloc; "# typed: true\n{statement}")?;
-        let report = reported(alloc, source.as_bytes())?;
-        assert!(rt;
-            report.as_slice() == b"f:1:1: 9000 not built yet\n".as_slice(),
-            "{statement}"
-        );
-    }
-    Ok(())
+fn attributes_and_initializers_are_judged(rt: HostRuntime) -> Result<(), Fail> {
+    all_reported(
+        &rt,
+        &[
+            (
+                "# typed: true\nclass A\n  extend T::Sig\n  sig { returns(Integer) }\n  attr_reader :a\n  def initialize\n    @a = T.let(\"s\", String)\n  end\nend\n",
+                "f:5:15: 7005 result expects Integer, found String\n",
+            ),
+            (
+                "# typed: true\nclass A\n  extend T::Sig\n  sig { returns(Integer) }\n  attr_reader :a\n  sig { params(a: Integer).void }\n  def initialize(a)\n    @a = a\n  end\nend\nT.reveal_type(A.new(1).a)\n",
+                "f:11:1: 7014 type is Integer\n",
+            ),
+        ],
+    )
 }
 
 /// A line of so many opening brackets and as many closing ones.

@@ -1,5 +1,5 @@
 -- Where the errors of a file stand.
-use Rattle.std.proofs.Common.{◌≡◌, ℕ, ◌≤◌, Bool, true, false, if◌then◌else◌, List, [], ◌∷◌, ◌++◌, length, refl, Option, Some, None, IfSome, nat_lt, codes, inl, inr, Result, Ok, Err, arith, subst, sym}
+use Rattle.std.proofs.Common.{◌≡◌, ℕ, ◌≤◌, Bool, true, false, if◌then◌else◌, List, [], ◌∷◌, ◌++◌, length, refl, nat_lt, inl, inr, Result, Ok, Err, arith, filter}
 use Rattle.std.specs.Str.{IsUtf8, chars, encode_utf8_all, is_utf8}
 use Rattle.std.proofs.lemmas.Str.{IsUtf8-from_is_utf8}
 use Rattle.srb_terms.specs.declared.diag.Diag.{Diag}
@@ -15,22 +15,20 @@ use Rattle.rb_lex.specs.declared.LexEnd.TheVariants as lex
 use Rattle.rb_lex_laws.specs.Tokens.{StandInOrder}
 use Rattle.srb_text.specs.Positions.{IsStart}
 use Rattle.rb_lex_laws.proofs.Standing.{tokens-stand, places-start}
+use Rattle.rb_lex_laws.proofs.Told.{tokens-told}
 use Rattle.rb_expr.specs.declared.ParseEnd.{ParseEnd}
 use Rattle.rb_expr.specs.declared.ParseEnd.TheVariants as parse
 use Rattle.rb_decl.specs.Programs.{parsed}
-use Rattle.rb_grammar.specs.Places.{Each, IsPlaced, StandsAt}
+use Rattle.rb_grammar.specs.Places.{Each, IsPlaced}
 use Rattle.rb_grammar.proofs.Programs.{programs-derive}
-use Rattle.rb_grammar.proofs.Nodes.{trees-stand-by-nodes}
 use Rattle.rb_grammar.proofs.Standing.{trees-stand-at-tokens}
-use Rattle.srb_check.specs.declared.built.Expression.{Expression}
-use Rattle.srb_check.specs.declared.built.Expression.TheVariants.{Plain, Let, Reveal}
 use Rattle.srb_check.specs.declared.reading.Reading.{Reading}
 use Rattle.srb_check.specs.declared.reading.Reading.TheVariants.{Program, Refused}
-use Rattle.srb_check.specs.Built.{built}
-use Rattle.srb_check.specs.Checks.{type_errors, reading_errors, text_errors, errors_of}
-use Rattle.srb_check.specs.Levels.{LARGEST_FILE, hides_all, needs_signatures, shows_types}
+use Rattle.srb_check.specs.Checks.{reading_errors, text_errors, errors_of}
+use Rattle.srb_check.specs.Levels.{LARGEST_FILE, hides_all, needs_signatures}
 use Rattle.srb_check.specs.Symbols.{symbol_errors}
-use Rattle.srb_check.specs.Messages.{class_name, too_large, not_utf8, is_same_class, expression_errors, expressions_errors, judged}
+use Rattle.srb_check.specs.Messages.{too_large, not_utf8}
+use Rattle.srb_check.specs.Types.{knowledge_of, type_errors}
 use Rattle.srb_check_laws.specs.Placed.{IsPlace, AreAtPlaces}
 use Rattle.srb_check.specs.Readings.{lex_error, parse_error, parsed_reading, lexed_reading, read}
 use Rattle.srb_conflicts.specs.Conflicts.{conflict_errors}
@@ -40,75 +38,67 @@ use Rattle.srb_declarations_laws.proofs.Programs.{programs-declare}
 use Rattle.srb_references.specs.declared.reference.Reference.{Reference}
 use Rattle.srb_references.specs.MalformedTypes.{malformed_errors, types_of}
 use Rattle.srb_references.specs.References.{reference_errors, references_of}
-use Rattle.srb_references_laws.specs.Placed.{IsTreePlaced}
 use Rattle.srb_references_laws.proofs.Programs.{programs-refer}
 use Rattle.srb_references_laws.proofs.Types.{malformed-stand}
 use Rattle.srb_sig.specs.Views.{View, view_of}
 use Rattle.srb_signatures.specs.Errors.{signature_errors}
 use Rattle.srb_signatures_laws.proofs.Places.{signatures-stand}
+use Rattle.rb_places_laws.specs.TokenPlaces.{IsTreePlaced, IsPlaceOfError}
+use Rattle.rb_places_laws.proofs.Programs.{programs_have_error_places}
+use Rattle.rb_rewrite.specs.Rewriting.{attrs_of}
+use Rattle.rb_rewrite_laws.proofs.Rewriting.{rewritten-has}
+use Rattle.srb_judgement.specs.Errors.{is_shown}
+use Rattle.srb_judgement.specs.Judgements.{errors_of as judged_errors}
+use Rattle.srb_language.specs.Asked.{language_of}
+use Rattle.srb_language.specs.Knowledge.{Knowledge}
+use Rattle.srb_judgement_laws.proofs.ErrorPlaces.{project-errors-have}
 use Rattle.srb_check_laws.proofs.ArrangedPlaces.{append-at_places, arranged-at_places}
-use Rattle.srb_check_laws.proofs.BuiltPlaces.{IsExpressionAt, built-placed}
 use Rattle.srb_check_laws.proofs.CharacterPlaces.{text-start, character-end}
+use Rattle.srb_check_laws.proofs.HeadPlaces.{IsSpelled, tokens-spelled, tree-in_text, place_of_error-in_text}
 use Rattle.srb_check_laws.proofs.SymbolPlaces.{AreErrorsAt, errors-append, conflicts-at, references-at}
 use Rattle.srb_check_laws.proofs.TokenPlaces.{InText, placed-in_text, token_place-in_text}
 
 -- ---- what a text is read to
 
--- the error stands in the text, or each that the tree may have
-abbrev AreExpressionsIn : List ℕ → List Expression → Type 0
-AreExpressionsIn text expressions = Each (IsExpressionAt (InText text)) expressions
-
+-- the error stands in the text, or each that the tree may have, whatever is known of its project
 abbrev IsReadingIn : List ℕ → Reading → Type 0
 IsReadingIn text (Refused error) = InText text error.span
 IsReadingIn text (Program tree) =
-    IfSome (built tree) (AreExpressionsIn text) × Each (λ d. InText text (place_of d)) (declarations_of tree) × Each (λ (r : Reference). InText text r.span) (references_of tree)
+    ((k : Knowledge) → Each (λ (e : Diag). InText text e.span) (judged_errors (language_of k) (attrs_of tree))) × Each (λ d. InText text (place_of d)) (declarations_of tree) × Each (λ (r : Reference). InText text r.span) (references_of tree)
     × ((needed : Bool) → Each (λ (e : Diag). InText text e.span) (signature_errors needed tree))
     × ((v : View) → Each (λ (e : Diag). InText text e.span) (malformed_errors v (types_of tree)))
-
-expression-in : (text : List ℕ) (tokens : List Token) → StandInOrder text 0 tokens → (e : Expression) → IsExpressionAt (IsPlaced tokens) e → IsExpressionAt (InText text) e
-expression-in text tokens stand Plain h = tt
-expression-in text tokens stand (Let literal asserted) h = placed-in_text text tokens stand literal.span h
-expression-in text tokens stand (Reveal literal span) h = placed-in_text text tokens stand span h
-
-expressions-in : (text : List ℕ) (tokens : List Token) → StandInOrder text 0 tokens → (es : List Expression) → Each (IsExpressionAt (IsPlaced tokens)) es → AreExpressionsIn text es
-expressions-in text tokens stand [] h = tt
-expressions-in text tokens stand (e ∷ es) h = (expression-in text tokens stand e h.0, expressions-in text tokens stand es h.1)
-
-built-in : (text : List ℕ) (tokens : List Token) → StandInOrder text 0 tokens → (es : Option (List Expression)) → IfSome es (Each (IsExpressionAt (IsPlaced tokens))) → IfSome es (AreExpressionsIn text)
-built-in text tokens stand None h = tt
-built-in text tokens stand (Some es) h = expressions-in text tokens stand es h
 
 each-in : {X : Type 0} (place : X → Span) (text : List ℕ) (tokens : List Token) → StandInOrder text 0 tokens → (xs : List X)
     → Each (λ x. IsPlaced tokens (place x)) xs → Each (λ x. InText text (place x)) xs
 each-in place text tokens stand [] h = tt
 each-in place text tokens stand (x ∷ xs) h = (placed-in_text text tokens stand (place x) h.0, each-in place text tokens stand xs h.1)
 
-tree-in : (text : List ℕ) (tokens : List Token) → StandInOrder text 0 tokens → (span : Span) → IsTreePlaced tokens span → InText text span
-tree-in text tokens stand span (inl h) = placed-in_text text tokens stand span h
-tree-in text tokens stand span (inr h) =
-    (subst (IsStart text) (sym h.0) (text-start text), subst (IsStart text) (sym h.1) (text-start text), omega (arith, h.0, h.1))
-
 trees-in : (text : List ℕ) (tokens : List Token) → StandInOrder text 0 tokens → (es : List Diag)
     → Each (λ (e : Diag). IsTreePlaced tokens e.span) es → Each (λ (e : Diag). InText text e.span) es
 trees-in text tokens stand [] h = tt
-trees-in text tokens stand (e ∷ es) h = (tree-in text tokens stand e.span h.0, trees-in text tokens stand es h.1)
+trees-in text tokens stand (e ∷ es) h = (tree-in_text text tokens stand e.span h.0, trees-in text tokens stand es h.1)
+
+judged-in : (text : List ℕ) (tokens : List Token) → StandInOrder text 0 tokens → Each IsSpelled tokens → (es : List Diag)
+    → Each (λ (e : Diag). IsPlaceOfError tokens e.span) es → Each (λ (e : Diag). InText text e.span) es
+judged-in text tokens stand spelled [] h = tt
+judged-in text tokens stand spelled (e ∷ es) h = (place_of_error-in_text text tokens stand spelled e.span h.0, judged-in text tokens stand spelled es h.1)
 
 parse_error-in : (text : List ℕ) (tokens : List Token) → StandInOrder text 0 tokens → (end : ParseEnd) → InText text (parse_error tokens (length (encode_utf8_all text)) end).span
 parse_error-in text tokens stand (parse.Bad at) = token_place-in_text text 0 tokens at stand
 parse_error-in text tokens stand (parse.TooDeep at) = token_place-in_text text 0 tokens at stand
 parse_error-in text tokens stand parse.NoMemory = token_place-in_text text 0 tokens 0 stand
 
-parsed-in : (text : List ℕ) (tokens : List Token) → StandInOrder text 0 tokens → (r : Result Tree ParseEnd) → parsed tokens ≡ r → IsReadingIn text (parsed_reading tokens (length (encode_utf8_all text)) r)
-parsed-in text tokens stand (Ok t) e =
+parsed-in : (text : List ℕ) (tokens : List Token) → StandInOrder text 0 tokens → Each IsSpelled tokens → (r : Result Tree ParseEnd) → parsed tokens ≡ r → IsReadingIn text (parsed_reading tokens (length (encode_utf8_all text)) r)
+parsed-in text tokens stand spelled (Ok t) e =
     let derives = programs-derive tokens t e in (
-      built-in text tokens stand (built t)
-          (built-placed tokens (StandsAt tokens) (λ u h. (trees-stand-by-nodes tokens u).0 h) t (trees-stand-at-tokens tokens t derives)),
+      (λ k. judged-in text tokens stand spelled (judged_errors (language_of k) (attrs_of t))
+          (project-errors-have (IsPlaceOfError tokens) k (attrs_of t) (rewritten-has (IsPlaceOfError tokens) t (programs_have_error_places tokens t derives)))),
       each-in place_of text tokens stand (declarations_of t) (programs-declare tokens t derives),
       each-in (λ (r : Reference). r.span) text tokens stand (references_of t) (programs-refer tokens t derives),
       (λ needed. each-in (λ (e : Diag). e.span) text tokens stand (signature_errors needed t) (signatures-stand tokens needed t (trees-stand-at-tokens tokens t derives))),
       (λ v. trees-in text tokens stand (malformed_errors v (types_of t)) (malformed-stand tokens v t (trees-stand-at-tokens tokens t derives))),
     )
-parsed-in text tokens stand (Err end) e = parse_error-in text tokens stand end
+parsed-in text tokens stand spelled (Err end) e = parse_error-in text tokens stand end
 
 lex_error-in : (text : List ℕ) (end : LexEnd) → lexed_text text ≡ Err end → InText text (lex_error (encode_utf8_all text) end).span
 lex_error-in text (lex.Bad at) e = let start = places-start text at (inr e) in (start, character-end text at start, omega arith)
@@ -116,7 +106,7 @@ lex_error-in text (lex.Outside at) e = let start = places-start text at (inl e) 
 lex_error-in text lex.NoMemory e = (text-start text, character-end text 0 (text-start text), omega arith)
 
 lexed-in : (text : List ℕ) (r : Result (List Token) LexEnd) → lexed_text text ≡ r → IsReadingIn text (lexed_reading (encode_utf8_all text) r)
-lexed-in text (Ok tokens) e = parsed-in text tokens (tokens-stand text tokens e) (parsed tokens) refl
+lexed-in text (Ok tokens) e = parsed-in text tokens (tokens-stand text tokens e) (tokens-spelled text tokens ((tokens-told text tokens).0 e)) (parsed tokens) refl
 lexed-in text (Err end) e = lex_error-in text end e
 
 read-in : (text : List ℕ) → IsReadingIn text (read text)
@@ -128,40 +118,32 @@ read-in text = lexed-in text (lexed_text text) refl
 place-in : (bytes : List ℕ) → IsUtf8 bytes → (span : Span) → InText (chars bytes) span → IsPlace bytes span.start × IsPlace bytes span.end × (span.start ≤ span.end)
 place-in bytes utf8 span h = (inr (utf8, h.0), inr (utf8, h.1), h.2)
 
-expression_errors-places : (bytes : List ℕ) → IsUtf8 bytes → (e : Expression) → IsExpressionAt (InText (chars bytes)) e → (later : List Diag) → AreAtPlaces bytes later → AreAtPlaces bytes (expression_errors e ++ later)
-expression_errors-places bytes utf8 Plain within later h = h
-expression_errors-places bytes utf8 (Let literal asserted) within later h = by_class (is_same_class literal.class asserted)
-  where
-    by_class : (same : Bool) → AreAtPlaces bytes ((if same then [] else record { span = literal.span; number = 7007; text = codes "expected " ++ class_name asserted ++ codes ", found " ++ class_name literal.class } ∷ []) ++ later)
-    by_class true = h
-    by_class false = let both = place-in bytes utf8 literal.span within in (both.0, both.1, both.2, h)
-expression_errors-places bytes utf8 (Reveal literal span) within later h = let both = place-in bytes utf8 span within in (both.0, both.1, both.2, h)
-
-expressions_errors-places : (bytes : List ℕ) → IsUtf8 bytes → (es : List Expression) → AreExpressionsIn (chars bytes) es → AreAtPlaces bytes (expressions_errors es)
-expressions_errors-places bytes utf8 [] within = tt
-expressions_errors-places bytes utf8 (e ∷ es) within =
-    expression_errors-places bytes utf8 e within.0 (expressions_errors es) (expressions_errors-places bytes utf8 es within.1)
-
-judged-places : (bytes : List ℕ) → IsUtf8 bytes → (o : Option (List Expression)) → IfSome o (AreExpressionsIn (chars bytes)) → AreAtPlaces bytes (judged o)
-judged-places bytes utf8 None h = (inl refl, inl refl, omega arith, tt)
-judged-places bytes utf8 (Some es) h = expressions_errors-places bytes utf8 es h
-
 errors-places : (bytes : List ℕ) → IsUtf8 bytes → (errors : List Diag) → AreErrorsAt (InText (chars bytes)) errors → AreAtPlaces bytes errors
 errors-places bytes utf8 [] h = tt
 errors-places bytes utf8 (e ∷ errors) h = let both = place-in bytes utf8 e.span h.0 in (both.0, both.1, both.2, errors-places bytes utf8 errors h.1)
 
-type_errors-places : (bytes : List ℕ) → IsUtf8 bytes → (level : Level) (tree : Tree) → IfSome (built tree) (AreExpressionsIn (chars bytes)) → AreAtPlaces bytes (type_errors level tree)
-type_errors-places bytes utf8 level tree h = by_level (shows_types level)
+-- the errors that are shown are among them
+shown-at : (P : Span → Type 0) (level : Level) (errors : List Diag) → AreErrorsAt P errors → AreErrorsAt P (filter (λ e. is_shown level e.number) errors)
+shown-at P level [] h = tt
+shown-at P level (e ∷ errors) h = by_number (is_shown level e.number)
   where
-    by_level : (shown : Bool) → AreAtPlaces bytes (if shown then judged (built tree) else [])
-    by_level true = judged-places bytes utf8 (built tree) h
-    by_level false = tt
+    later : AreErrorsAt P (filter (λ e. is_shown level e.number) errors)
+    later = shown-at P level errors h.1
+
+    by_number : (shown : Bool) → AreErrorsAt P (if shown then e ∷ filter (λ e. is_shown level e.number) errors else filter (λ e. is_shown level e.number) errors)
+    by_number true = (h.0, later)
+    by_number false = later
+
+types-at : (P : Span → Type 0) (facts : List Fact) (level : Level) (tree : Tree) → ((k : Knowledge) → AreErrorsAt P (judged_errors (language_of k) (attrs_of tree)))
+    → AreErrorsAt P (type_errors facts level tree)
+unfolding type_errors
+types-at P facts level tree h = shown-at P level (judged_errors (language_of (knowledge_of facts)) (attrs_of tree)) (h (knowledge_of facts))
 
 reading_errors-places : (bytes : List ℕ) → IsUtf8 bytes → (facts : List Fact) (level : Level) (reading : Reading) → IsReadingIn (chars bytes) reading → AreAtPlaces bytes (reading_errors facts level reading)
 reading_errors-places bytes utf8 facts level (Refused error) h = let both = place-in bytes utf8 error.span h in (both.0, both.1, both.2, tt)
 reading_errors-places bytes utf8 facts level (Program tree) h =
-    arranged-at_places bytes (symbol_errors facts level tree ++ type_errors level tree)
-    (append-at_places bytes (symbol_errors facts level tree) (type_errors level tree)
+    arranged-at_places bytes (symbol_errors facts level tree ++ type_errors facts level tree)
+    (append-at_places bytes (symbol_errors facts level tree) (type_errors facts level tree)
     (errors-places bytes utf8 (symbol_errors facts level tree)
     (errors-append (InText (chars bytes))
     (conflict_errors facts (declarations_of tree) ++ reference_errors facts (references_of tree) ++ malformed_errors (view_of facts) (types_of tree))
@@ -172,7 +154,7 @@ reading_errors-places bytes utf8 facts level (Program tree) h =
     (conflicts-at (InText (chars bytes)) facts (declarations_of tree) h.1) (references-at (InText (chars bytes)) facts (references_of tree) h.2))
     (h.4 (view_of facts)))
     (h.3 (needs_signatures level))))
-    (type_errors-places bytes utf8 level tree h.0))
+    (errors-places bytes utf8 (type_errors facts level tree) (types-at (InText (chars bytes)) facts level tree h.0)))
 
 text_errors-places : (bytes : List ℕ) → IsUtf8 bytes → (facts : List Fact) → AreAtPlaces bytes (text_errors facts (chars bytes))
 text_errors-places bytes utf8 facts = by_level (hides_all (level_of_text (chars bytes)))

@@ -1,6 +1,6 @@
 pub mod CharacterPlaces
 pub mod TokenPlaces
-pub mod BuiltPlaces
+pub mod HeadPlaces
 pub mod SymbolPlaces
 pub mod ArrangedPlaces
 pub mod ErrorPlaces

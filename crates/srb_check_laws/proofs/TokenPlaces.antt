@@ -14,7 +14,7 @@ use Rattle.srb_check_laws.proofs.CharacterPlaces.{text-end}
 abbrev pub InText : List ℕ → Span → Type 0
 InText text span = IsStart text span.start × IsStart text span.end × (span.start ≤ span.end)
 
-token-in_text : (text : List ℕ) (from : ℕ) (tokens : List Token) → StandInOrder text from tokens → (t : Token) → IsOneOf tokens t → InText text t.span
+pub token-in_text : (text : List ℕ) (from : ℕ) (tokens : List Token) → StandInOrder text from tokens → (t : Token) → IsOneOf tokens t → InText text t.span
 token-in_text text from [] stand t h = absurd h
 token-in_text text from (u ∷ tokens) stand t (inl e) = subst (λ (v : Token). InText text v.span) (sym e) (stand.2, stand.3, stand.1)
 token-in_text text from (u ∷ tokens) stand t (inr h) = token-in_text text u.span.end tokens stand.4 t h

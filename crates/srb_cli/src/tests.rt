@@ -80,7 +80,7 @@ fn checked<R: Threads + Wait + Sync>(
 }
 
 /// Inputs, and the reports that they have.
-const ROWS: [(&str, &str); 31] = [
+const ROWS: [(&str, &str); 32] = [
     ("", ""),
     (
         "# typed: true\nx = T.let(\"a\", Integer)\n",
@@ -92,10 +92,7 @@ const ROWS: [(&str, &str); 31] = [
         "stdin.rb:2:1: 7014 type is NilClass\n",
     ),
     ("class A; end", ""),
-    (
-        "# typed: true\nclass A; end",
-        "stdin.rb:1:1: 9000 not built yet\n",
-    ),
+    ("# typed: true\nclass A; end", ""),
     (
         "# typed: true\nT.let(true, Integer)\n",
         "stdin.rb:2:7: 7007 expected Integer, found TrueClass\n",
@@ -118,9 +115,10 @@ const ROWS: [(&str, &str); 31] = [
     ("# typed: ignore\n)", ""),
     ("0123456789", "stdin.rb:1:1: 9001 outside the profile\n"),
     ("1234567890123456789", ""),
+    ("# typed: true\n1234567890123456789", ""),
     (
-        "# typed: true\n1234567890123456789",
-        "stdin.rb:1:1: 9000 not built yet\n",
+        "# typed: true\nx = 1\nx.nope",
+        "stdin.rb:3:3: 7003 method nope does not exist on Integer\n",
     ),
     ("if = 1\n", "stdin.rb:1:4: 2001 syntax error\n"),
     ("1a = 1\n", "stdin.rb:1:1: 9001 outside the profile\n"),
