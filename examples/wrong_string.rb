@@ -1,2 +1,0 @@
-# typed: true
-x = T.let("a", Integer)
