@@ -16,8 +16,8 @@ const CHUNK: usize = 65536;
 
 /// The files of the system. They don't tell what they are.
 ///
-/// Only regular files are listed, and no link is followed. A listing fails at its 1,000,000th entry, and where a name
-/// isn't UTF-8.
+/// Only regular files are listed, and no link is followed. A name that isn't UTF-8 is passed over, and so is all below it. A listing
+/// fails at its 1,000,000th entry.
 #[derive(Drop)]
 pub struct DirFiles<'a, R: System + AllocGlobal + Clone + Drop> {
     rt: &'a R,
@@ -123,14 +123,16 @@ fn look_into<R: System + AllocGlobal + Clone + Drop>(
         Err(error) => return Err(end_of(error)),
     };
     for entry in entries {
-        let entry = match entry {
-            Ok(entry) => entry,
-            Err(error) => return Err(end_of(error)),
-        };
         walk.entries = walk.entries.saturating_add(1);
         if walk.entries >= LAST_ENTRY {
             return Err(FilesEnd::Failed);
         }
+        let entry = match entry {
+            Ok(entry) => entry,
+            // (a name that isn't UTF-8 is in no path)
+            Err(error) if error.kind() == ErrorKind::InvalidFilename => continue,
+            Err(error) => return Err(end_of(error)),
+        };
         let kind = match entry.file_type() {
             Ok(kind) => kind,
             Err(error) => return Err(end_of(error)),
