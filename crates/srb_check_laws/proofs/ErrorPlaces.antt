@@ -122,17 +122,16 @@ errors-places : (bytes : List ℕ) → IsUtf8 bytes → (errors : List Diag) →
 errors-places bytes utf8 [] h = tt
 errors-places bytes utf8 (e ∷ errors) h = let both = place-in bytes utf8 e.span h.0 in (both.0, both.1, both.2, errors-places bytes utf8 errors h.1)
 
+-- an error, if it is shown, before others
+shown-first : (P : Span → Type 0) (shown : Bool) (e : Diag) (rest : List Diag) → P e.span → AreErrorsAt P rest → AreErrorsAt P (if shown then e ∷ rest else rest)
+shown-first P true e rest here later = (here, later)
+shown-first P false e rest here later = later
+
 -- the errors that are shown are among them
 shown-at : (P : Span → Type 0) (level : Level) (errors : List Diag) → AreErrorsAt P errors → AreErrorsAt P (filter (λ e. is_shown level e.number) errors)
 shown-at P level [] h = tt
-shown-at P level (e ∷ errors) h = by_number (is_shown level e.number)
-  where
-    later : AreErrorsAt P (filter (λ e. is_shown level e.number) errors)
-    later = shown-at P level errors h.1
-
-    by_number : (shown : Bool) → AreErrorsAt P (if shown then e ∷ filter (λ e. is_shown level e.number) errors else filter (λ e. is_shown level e.number) errors)
-    by_number true = (h.0, later)
-    by_number false = later
+shown-at P level (e ∷ errors) h =
+    shown-first P (is_shown level e.number) e (filter (λ e. is_shown level e.number) errors) h.0 (shown-at P level errors h.1)
 
 types-at : (P : Span → Type 0) (facts : List Fact) (level : Level) (tree : Tree) → ((k : Knowledge) → AreErrorsAt P (judged_errors (language_of k) (attrs_of tree)))
     → AreErrorsAt P (type_errors facts level tree)
