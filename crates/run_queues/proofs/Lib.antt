@@ -1,2 +1,4 @@
 pub mod Gathered
+pub mod InOrder
+pub mod OnlyOne
 pub mod Rules
