@@ -125,7 +125,7 @@ impl Inbox {
 
     /// Takes the first input, or finds the inbox empty, and tells the trace a Take or a Look of it. `None` comes only where the
     /// inbox was empty at a step of the call. An error is the trace's, which was told nothing: the input that was found stays
-    /// with the pass, and the next call gives it without looking again. A trace that takes no memory leaves none there.
+    /// with the pass, and the next call gives it without looking again. The call takes no memory itself.
     pub fn take<R: Wait, T: Trace>(
         &self,
         rt: &R,
@@ -167,8 +167,8 @@ impl Inbox {
         self.parker.unpark();
     }
 
-    /// Ends the put pass. The take pass knows from then on what was put, of which the inputs that it heard are the first. It
-    /// takes no memory.
+    /// Ends the put pass by one join, and reads how many inputs are left. The take pass shows from then on what was put, of
+    /// which the inputs that it heard are the first. It takes no memory.
     pub fn meet<R: Wait>(&self, rt: &R, p: PutPass, q: &mut TakePass)
         requires put { p.queue ≡ self.now.name }
         requires take { q.old.queue ≡ self.now.name }
