@@ -38,7 +38,7 @@ abbrev pub step_of : Option Inp → Step
 step_of (Some inp) = Take inp
 step_of None = Look
 
--- at one step the queue was empty, and the rule held of it and of all passes, of which the one that takes showed this
+-- What the pass that takes shows can be so of an empty queue: the rule holds of it and of some passes, of which one shows this.
 pub record WasEmpty (pass : Hearing) : Type 0 where
   pub views : List Mail
   pub port : ℕ
@@ -49,6 +49,6 @@ pub record WasEmpty (pass : Hearing) : Type 0 where
   pub heard : mail.heard ≡ pass.heard
   pub sent : sent_by mail ≡ pass.sent
 
--- one look was heard, which found this, and this is kept for the next call. Nothing is found only where the queue was empty at a step
+-- one look was heard, which found this, and this is kept for the next call; where nothing is found, that can be so
 abbrev pub Hears : Hearing → Hearing → Option Inp → Option Inp → Type 0
 Hears before after found kept = (after ≡ record before { heard = before.heard ++ heard_of found ∷ []; kept = kept }) × IfNone found (WasEmpty before)

@@ -123,8 +123,8 @@ impl Inbox {
         }
     }
 
-    /// Takes the first input, or finds the inbox empty, and tells the trace a Take or a Look of it. `None` comes only where the
-    /// inbox was empty at a step of the call. An error is the trace's, which was told nothing: the input that was found stays
+    /// Takes the first input, or finds the inbox empty, and tells the trace a Take or a Look of it. Where the pass knows what
+    /// was put, `None` tells that all of it was heard; before, only that this can be. An error is the trace's, which was told nothing: the input that was found stays
     /// with the pass, and the next call gives it without looking again. The call takes no memory itself.
     pub fn take<R: Wait, T: Trace>(
         &self,

@@ -5,7 +5,7 @@
 //! knows, and of the queue its name and room alone.
 //!
 //! The passes of an `Inbox` show the inputs that were put and what was heard. Whatever the two threads do, the inputs that are
-//! heard are those that were put, in order, each once, and nothing is heard only where the inbox was empty.
+//! heard are those that were put, in order, each once, which the contracts say once the passes met.
 //!
 //! A pass of `Results` shows a view, the items that it gave and got, and how many puts and takes it may still make. Whatever
 //! the other threads do, each item that comes out is right by the view, and where one pass holds the right to all puts and
