@@ -26,7 +26,7 @@ use srb_judgement::signature::{Signature, Typed};
 use srb_judgement::states::{State, fresh};
 use srb_judgement::types::nil_type;
 use srb_terms::{Diag, Items, Name, Names, NoMemory, ParamShape, Span, Ty};
-use srb_walk::around::{Beside, copied};
+use srb_walk::around::Beside;
 use srb_walk::assigned::assigned;
 use srb_walk::walking::Walk;
 use srb_walk::written::{Standing, is_empty, last, standing_of};
@@ -165,7 +165,7 @@ fn see<L: Language>(
 {
     let mut names = Items::new(alloc);
     assigned(alloc, language, false, tree, &mut names)?;
-    context.see_all(names.as_slice())?;
+    context.see_all(alloc, names.as_slice())?;
     Ok(())
 }
 
@@ -200,7 +200,7 @@ fn parameter<W: Walk, L: Language>(
 {
     let ty = param_type(language, params, &parameter.name)?;
     state.set_type(&parameter.name, ty.copied()?)?;
-    context.see(parameter.name.copied()?)?;
+    context.see(alloc, parameter.name.copied()?)?;
     with_default(
         alloc, walk, language, context, state, method, &ty, parameter,
     )?;
@@ -222,7 +222,7 @@ fn parameters<W: Walk, L: Language>(
     ensures judged { OnOk result (seen_state state.new ≡ spec.with_parameters (L.the language.now) method.now params.now (known.known_parameters (L.the language.now) row.now) (seen_context context.now) (seen_state state.old)) }
     ensures seen { IfOk result (λ x. seen_context x ≡ spec.seeing_parameters (L.the language.now) (known.known_parameters (L.the language.now) row.now) (seen_context context.now)) }
 {
-    let mut inner = copied(alloc, context)?;
+    let mut inner = context.copied(alloc)?;
     'row: for each in row {
         parameter(
             alloc, walk, language, &mut inner, state, method, params, each,

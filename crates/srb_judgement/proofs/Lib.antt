@@ -11,4 +11,5 @@ pub mod Folds
 pub mod KeptContexts
 pub mod Nodes
 pub mod Rows
+pub mod SeenNames
 pub mod Steps

@@ -15,6 +15,7 @@ use Rattle.srb_judgement.specs.Languages.{Language}
 use Rattle.srb_judgement.specs.States.{State}
 use Rattle.srb_judgement.specs.Steps.{added_if, hidden_after, is_outer, outer_after, parameters_after, passed, pinned_after, unless_seen, with_unseen}
 use Rattle.srb_judgement.specs.Views.{seen_arguments, seen_given, seen_named, seen_row}
+use Rattle.srb_judgement.proofs.SeenNames.{any-has}
 
 -- ---- lists
 
@@ -83,6 +84,11 @@ hidden_all (name ∷ names) other own =
     hidden_all names other (cond (bytes_eq name other) (Some None) own) ∙ hidden-step (bytes_eq name other) (has_name other names) own
 
 module _ {X : Type 0} (L : Language Ty X) (rows : List (Row Ty)) where
+  pub pinned_append : (names more : List (List ℕ)) (other : List ℕ) (own : Option (Option Ty)) →
+      pinned_after L rows more other (pinned_after L rows names other own) ≡ pinned_after L rows (names ++ more) other own
+  pinned_append [] more other own = refl
+  pinned_append (name ∷ names) more other own = pinned_append names more other (cond (bytes_eq name other) (Some (Some (variable_type L rows name))) own)
+
   pub pinned_all : (names : List (List ℕ)) (other : List ℕ) (own : Option (Option Ty)) →
       pinned_after L rows names other own ≡ cond (list_any (bytes_eq other) names) (Some (Some (variable_type L rows other))) own
   pinned_all [] other own = refl
@@ -104,8 +110,8 @@ module _ {X : Type 0} (L : Language Ty X) (rows : List (Row Ty)) where
       by false e = refl
 
   pub pinned_live : (names : List (List ℕ)) (other : List ℕ) →
-      pinned_after L rows names other None ≡ pin_at L (Live rows) (list_any (bytes_eq other) names) other
-  pinned_live names other = pinned_all names other None ∙ by (list_any (bytes_eq other) names)
+      pinned_after L rows names other None ≡ pin_at L (Live rows) (has_name other names) other
+  pinned_live names other = pinned_all names other None ∙ ap (λ b. cond b (Some (Some (variable_type L rows other))) None) (any-has other names) ∙ by (has_name other names)
     where
       by : (b : Bool) → cond b (Some (Some (variable_type L rows other))) None ≡ pin_at L (Live rows) b other
       by true = refl

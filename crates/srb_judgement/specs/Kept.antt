@@ -8,7 +8,6 @@ use Rattle.srb_terms.specs.Worlds.{value_of}
 use Rattle.srb_terms.specs.declared.ty.Ty.{Ty}
 use Rattle.srb_judgement.specs.declared.contexts.Context as kept
 use Rattle.srb_judgement.specs.declared.contexts.Layer as layer
-use Rattle.srb_judgement.specs.declared.contexts.Outside as outside
 use Rattle.srb_judgement.specs.Environments.{Environment, Live, Dead, Silent, variable_type}
 use Rattle.srb_judgement.specs.Languages.{Language}
 use Rattle.srb_judgement.specs.Pins.{pinned_by}
@@ -18,7 +17,7 @@ use Rattle.srb_judgement.specs.States.{Context, seeing}
 
 -- whether a name is visible
 abbrev pub sees : kept.Context → List ℕ → Bool
-sees x name = list_any (bytes_eq name) x.visible.keys
+sees x name = has_name name x.visible
 
 -- the pin of a layer, where it has one
 abbrev pub own_pin : layer.Layer → List ℕ → Option (Option Ty)
@@ -61,37 +60,6 @@ SameContext x c = seen_context x ≡ c
 abbrev pub AtEach : kept.Context → (Context Ty → Type 0) → Type 0
 AtEach x P = P (seen_context x)
 
--- ---- a context that goes on
-
--- these names are visible besides those that were, and stand behind them
-pub record Grown (names : List (List ℕ)) (old new : kept.Context) : Type 0 where
-  pub seen : seen_context new ≡ seeing names (seen_context old)
-  pub pins : new.pins ≡ old.pins
-  pub behind : (more : List (List ℕ)) × (new.visible.keys ≡ old.visible.keys ++ more)
-
--- a context inside a loop or block, and that around it, by what was kept of it
-pub record Within (place : outside.Outside) (around inner : kept.Context) : Type 0 where
-  pub self_type : inner.self_type ≡ around.self_type
-  pub scope : inner.scope ≡ around.scope
-  pub owner : inner.owner ≡ around.owner
-  pub meta : inner.meta ≡ around.meta
-  pub result : inner.result ≡ around.result
-  pub inside : place.inside ≡ around.inside
-  pub looping : place.looping ≡ around.looping
-  pub count : place.visible ≡ length around.visible.keys
-  pub pins : (l : layer.Layer) × (inner.pins ≡ around.pins ++ l ∷ [])
-  pub behind : (more : List (List ℕ)) × (inner.visible.keys ≡ around.visible.keys ++ more)
-
--- what leaving a loop gives: these names became visible in it, and stay so
-abbrev pub LeavesLoop : outside.Outside → kept.Context → kept.Context → Type 0
-LeavesLoop place inner left =
-    (around : kept.Context) (names : List (List ℕ)) → Within place around inner →
-    ((name : List ℕ) → sees inner name ≡ (has_name name names || sees around name)) → Grown names around left
-
--- what leaving a block gives: what was around it, but for the room that the set of visible variables takes
-abbrev pub LeavesBlock : outside.Outside → kept.Context → kept.Context → Type 0
-LeavesBlock place inner left = (around : kept.Context) → Within place around inner → Grown [] around left
-
 -- ---- layers
 
 -- the pin of a layer for a variable that is a parameter of the block
@@ -111,4 +79,4 @@ module _ {X : Type 0} (L : Language Ty X) where
   pin_at Silent visible name = None
 
   abbrev pub PinsAll : Environment Ty → List (List ℕ) → layer.Layer → Type 0
-  PinsAll entry names l = (name : List ℕ) → own_pin l name ≡ pin_at entry (list_any (bytes_eq name) names) name
+  PinsAll entry names l = (name : List ℕ) → own_pin l name ≡ pin_at entry (has_name name names) name

@@ -38,6 +38,7 @@ pub mod Operators
 pub mod Parts
 pub mod Pins
 pub mod Reaching
+pub mod Seen
 pub mod Sequences
 pub mod Spellings
 pub mod States

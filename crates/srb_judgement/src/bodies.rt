@@ -15,7 +15,7 @@ use crate::jumps::check_result;
 use crate::language::Language;
 use crate::signature::Typed;
 use crate::states::State;
-use indexmap::IndexSet;
+use crate::visible::Visible;
 use rb_tree::syntax::PlacedName;
 use srb_terms::{Diag, Items, Name, Names, NoMemory, Span, Ty};
 use std::alloc::Global;
@@ -87,7 +87,7 @@ fn bare(
         inside: false,
         looping: false,
         pins: Items::new(alloc),
-        visible: IndexSet::new(alloc),
+        visible: Visible::new(),
     }
 }
 

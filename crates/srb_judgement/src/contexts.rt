@@ -1,22 +1,22 @@
 //! What is around an expression.
 //!
-//! One context serves a whole body. What an expression assigns becomes visible by `see`, and stays so; a loop or block is entered by
-//! `enter_loop` or `enter_block`, and left by `leave_loop` or `leave_block`. So what was around an expression is afterwards around what
-//! follows it.
+//! Copies of a context share what it holds. A variable becomes visible by `see`; `in_loop` and `in_block` are the contexts inside a loop
+//! and inside a block.
 
-ghost use Rattle.std.specs.Prelude.{◌≡◌, ◌∷◌, [], None, IfOk, OnOk};
+ghost use Rattle.std.specs.Prelude.{◌≡◌, ◌∷◌, ◌++◌, [], None, IfOk, OnOk};
 ghost use Rattle.std.specs.Option.{option_copied};
 ghost use Rattle.srb_judgement.specs.Environments.{Live};
-ghost use Rattle.srb_judgement.specs.Kept.{AtEach, Grown, LeavesBlock, LeavesLoop, PinsAll, SameContext, Within, last_pin, or_before, own_pin, pin_in, sees};
+ghost use Rattle.srb_judgement.specs.Kept.{AtEach, PinsAll, SameContext, last_pin, or_before, own_pin, pin_in, seen_context, sees};
 ghost use Rattle.srb_judgement.specs.Pins.{in_loop, in_block};
-ghost use Rattle.srb_judgement.specs.States.{is_visible};
+ghost use Rattle.srb_judgement.specs.States.{is_visible, seeing};
 ghost use Rattle.srb_judgement.specs.Steps.{HiddenAfter, PinnedAfter, Pins};
 ghost use Rattle.srb_judgement.specs.Views.{seen_environment, seen_rows};
 
 use crate::environments::{Environment, Rows, variable_type};
 use crate::language::Language;
-use indexmap::{IndexMap, IndexSet};
-use srb_terms::{Items, Name, Names, NoMemory, Ty};
+use crate::visible::Visible;
+use indexmap::IndexMap;
+use srb_terms::{Boxed, Items, Name, Names, NoMemory, Ty};
 use std::alloc::Global;
 
 /// The types at which a loop or a block pins variables. `None` is for a parameter of the block, which hides an outer variable and isn't
@@ -43,18 +43,9 @@ pub struct Context {
     /// Whether a loop is around.
     pub looping: bool,
     /// The pins of the loops and blocks around, the innermost last.
-    pub pins: Items<Layer>,
+    pub pins: Items<Boxed<Layer>>,
     /// The variables that are visible.
-    pub visible: IndexSet<Name>,
-}
-
-/// What was around a loop or a block, kept while its inside is judged.
-#[derive(Clone, Copy, Debug)]
-pub struct Outside {
-    pub inside: bool,
-    pub looping: bool,
-    /// The number of variables that were visible.
-    pub visible: usize,
+    pub visible: Visible,
 }
 
 impl Context {
@@ -74,88 +65,99 @@ impl Context {
     }
 
     /// Makes a variable visible.
-    pub fn see(&mut self, name: Name) -> Result<(), NoMemory>
-        ensures { OnOk result (Grown (name ∷ []) self.old self.new) }
+    pub fn see(&mut self, alloc: Global, name: Name) -> Result<(), NoMemory>
+        ensures { OnOk result (seen_context self.new ≡ seeing (name ∷ []) (seen_context self.old)) }
     {
-        self.visible.insert(name)?;
-        Ok(())
-    }
-
-    /// Makes variables visible.
-    pub fn see_all(&mut self, names: &[Name]) -> Result<(), NoMemory>
-        ensures { OnOk result (Grown names.now self.old self.new) }
-    {
-        'names: for name in names {
-            self.see(name.copied()?)?;
+        if !self.visible.contains(&name) {
+            self.visible.add(alloc, name)?;
         }
         Ok(())
     }
 
-    /// Goes into a loop that is entered in this environment: every visible variable is pinned at its type.
-    pub fn enter_loop<L: Language>(
-        &mut self,
+    /// Makes variables visible.
+    pub fn see_all(&mut self, alloc: Global, names: &[Name]) -> Result<(), NoMemory>
+        ensures { OnOk result (seen_context self.new ≡ seeing names.now (seen_context self.old)) }
+    {
+        'names: for name in names {
+            self.see(alloc, name.copied()?)?;
+        }
+        Ok(())
+    }
+
+    /// A copy, which shares the visible variables and the pins.
+    pub fn copied(&self, alloc: Global) -> Result<Context, NoMemory>
+        ensures { IfOk result (λ x. x ≡ self.now) }
+    {
+        Ok(Context {
+            self_type: self.self_type.copied()?,
+            scope: self.scope.copied()?,
+            owner: self.owner.copied()?,
+            meta: self.meta,
+            result: copied_type(&self.result)?,
+            inside: self.inside,
+            looping: self.looping,
+            pins: copied_layers(alloc, self.pins.as_slice())?,
+            visible: self.visible.copied()?,
+        })
+    }
+
+    /// The context in a loop that is entered in this environment: every visible variable is pinned at its type.
+    pub fn in_loop<L: Language>(
+        &self,
         alloc: Global,
         language: &L,
         entry: &Environment,
-    ) -> Result<Outside, NoMemory>
-        ensures inner { OnOk result (AtEach self.old (λ c. SameContext self.new (in_loop (L.the language.now) (seen_environment entry.now) c))) }
-        ensures within { IfOk result (λ place. Within place self.old self.new) }
+    ) -> Result<Context, NoMemory>
+        ensures { IfOk result (λ x. SameContext x (in_loop (L.the language.now) (seen_environment entry.now) (seen_context self.now))) }
     {
-        let place = Outside {
-            inside: self.inside,
-            looping: self.looping,
-            visible: self.visible.len(),
-        };
-        let layer = pins_of(alloc, language, entry, self.visible.as_slice())?;
-        self.pins.push(layer)?;
-        self.inside = true;
-        self.looping = true;
-        Ok(place)
+        let layer = pins_of(alloc, language, entry, &self.visible)?;
+        let mut inner = self.copied(alloc)?;
+        inner.pins.push(Boxed::new(alloc, layer)?)?;
+        inner.inside = true;
+        inner.looping = true;
+        Ok(inner)
     }
 
-    /// Goes into a block with these parameters that is entered in this environment: every visible variable is pinned at its type, but for
-    /// the parameters, which are visible.
-    pub fn enter_block<L: Language>(
-        &mut self,
+    /// The context in a block with these parameters that is entered in this environment: every visible variable is pinned at its type, but
+    /// for the parameters, which are visible.
+    pub fn in_block<L: Language>(
+        &self,
         alloc: Global,
         language: &L,
         entry: &Environment,
         parameters: &[Name],
-    ) -> Result<Outside, NoMemory>
-        ensures inner { OnOk result (AtEach self.old (λ c. SameContext self.new (in_block (L.the language.now) (seen_environment entry.now) parameters.now c))) }
-        ensures within { IfOk result (λ place. Within place self.old self.new) }
+    ) -> Result<Context, NoMemory>
+        ensures { IfOk result (λ x. SameContext x (in_block (L.the language.now) (seen_environment entry.now) parameters.now (seen_context self.now))) }
     {
-        let place = Outside {
-            inside: self.inside,
-            looping: self.looping,
-            visible: self.visible.len(),
-        };
-        let mut layer = pins_of(alloc, language, entry, self.visible.as_slice())?;
+        let mut layer = pins_of(alloc, language, entry, &self.visible)?;
         hide(&mut layer, parameters)?;
-        self.pins.push(layer)?;
-        self.inside = true;
-        self.see_all(parameters)?;
-        Ok(place)
+        let mut inner = self.copied(alloc)?;
+        inner.pins.push(Boxed::new(alloc, layer)?)?;
+        inner.inside = true;
+        inner.see_all(alloc, parameters)?;
+        Ok(inner)
     }
+}
 
-    /// Leaves a loop: what became visible in it stays so.
-    pub fn leave_loop(&mut self, place: Outside)
-        ensures { LeavesLoop place self.old self.new }
-    {
-        self.inside = place.inside;
-        self.looping = place.looping;
-        let _ = self.pins.pop();
+/// A copy of what may be left out.
+fn copied_type(ty: &Option<Ty>) -> Result<Option<Ty>, NoMemory>
+    ensures { IfOk result (λ t. t ≡ ty.now) }
+{
+    match ty {
+        Some(ty) => Ok(Some(ty.copied()?)),
+        None => Ok(None),
     }
+}
 
-    /// Leaves a block: what became visible in it isn't any more.
-    pub fn leave_block(&mut self, place: Outside)
-        ensures { LeavesBlock place self.old self.new }
-    {
-        self.inside = place.inside;
-        self.looping = place.looping;
-        let _ = self.pins.pop();
-        self.visible.truncate(place.visible);
+/// Copies of layers of pins, which share the pins.
+fn copied_layers(alloc: Global, layers: &[Boxed<Layer>]) -> Result<Items<Boxed<Layer>>, NoMemory>
+    ensures { IfOk result (λ copies. copies ≡ layers.now) }
+{
+    let mut copies = Items::new(alloc);
+    'layers: for layer in layers {
+        copies.push(layer.copied()?)?;
     }
+    Ok(copies)
 }
 
 /// The pin of a layer, or else that before it.
@@ -173,18 +175,18 @@ fn or_before<'a>(
 }
 
 /// The pin of the last layer that has one.
-fn last_pin<'a>(layers: &'a [Layer], name: &Name) -> Option<&'a Option<Ty>>
+fn last_pin<'a>(layers: &'a [Boxed<Layer>], name: &Name) -> Option<&'a Option<Ty>>
     ensures { option_copied result ≡ last_pin None layers.now name.now }
 {
     let mut last = None;
     'layers: for layer in layers {
-        last = or_before(layer, last, name);
+        last = or_before(layer.get(), last, name);
     }
     last
 }
 
 /// The type at which these layers pin a variable. `None` where none does.
-fn pin_in<'a>(layers: &'a [Layer], name: &Name) -> Option<&'a Ty>
+fn pin_in<'a>(layers: &'a [Boxed<Layer>], name: &Name) -> Option<&'a Ty>
     ensures { option_copied result ≡ pin_in layers.now name.now }
 {
     match last_pin(layers, name) {
@@ -217,6 +219,24 @@ fn pin_all<L: Language>(
     Ok(())
 }
 
+/// Pins each of these variables at its type.
+fn pin_list<L: Language>(
+    language: &L,
+    rows: &Rows,
+    names: &Names,
+    layer: &mut Layer,
+) -> Result<(), NoMemory>
+    ensures { OnOk result (PinnedAfter (L.the language.now) (seen_rows rows.now.entries) names.now layer.old layer.new) }
+{
+    let mut at = names;
+    'names: while let Some((name, rest)) = at.split() {
+        let ty = variable_type(language, rows, name).copied()?;
+        pin(layer, name.copied()?, Some(ty))?;
+        at = rest;
+    }
+    Ok(())
+}
+
 /// No pin.
 fn no_pins(alloc: Global) -> Layer
     ensures { result.pins.entries ≡ [] }
@@ -231,12 +251,14 @@ fn pinned_all<L: Language>(
     alloc: Global,
     language: &L,
     rows: &Rows,
-    names: &[Name],
+    visible: &Visible,
 ) -> Result<Layer, NoMemory>
-    ensures { IfOk result (PinsAll (L.the language.now) (Live (seen_rows rows.now.entries)) names.now) }
+    ensures { IfOk result (PinsAll (L.the language.now) (Live (seen_rows rows.now.entries)) visible.now) }
 {
+    let (recent, settled) = visible.parts();
     let mut layer = no_pins(alloc);
-    pin_all(language, rows, names, &mut layer)?;
+    pin_list(language, rows, recent, &mut layer)?;
+    pin_all(language, rows, settled, &mut layer)?;
     Ok(layer)
 }
 
@@ -245,7 +267,7 @@ fn pins_of<L: Language>(
     alloc: Global,
     language: &L,
     entry: &Environment,
-    visible: &[Name],
+    visible: &Visible,
 ) -> Result<Layer, NoMemory>
     ensures { IfOk result (PinsAll (L.the language.now) (seen_environment entry.now) visible.now) }
 {

@@ -45,4 +45,5 @@ pub mod spelling;
 pub mod states;
 pub mod tested;
 pub mod types;
+pub mod visible;
 pub mod words;

@@ -1,4 +1,3 @@
-pub mod Copying
 pub mod EndingProofs
 pub mod Judgings
 pub mod Known

@@ -1,6 +1,5 @@
 pub mod Assigned
 pub mod Beside
-pub mod Copies
 pub mod Endings
 pub mod Judging
 pub mod Known

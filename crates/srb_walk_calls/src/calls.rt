@@ -32,7 +32,7 @@ use srb_judgement::language::Language;
 use srb_judgement::sent::{Arguments, Given, Named};
 use srb_judgement::states::State;
 use srb_terms::{Boxed, Items, Name, NoMemory, Span, Ty};
-use srb_walk::around::{Beside, in_block, parameter_names};
+use srb_walk::around::{Beside, parameter_names};
 use srb_walk::assigned::assigned;
 use srb_walk::ending::Ending;
 use srb_walk::names::{after_arguments, after_prefix, prefix_spelling, see_argument};
@@ -161,13 +161,7 @@ pub fn block<W: Walk, L: Language>(
     let parameters = parameter_names(alloc, block.parameters.as_slice())?;
     let mut assigns = Items::new(alloc);
     assigned(alloc, language, true, &block.body, &mut assigns)?;
-    let inner = in_block(
-        alloc,
-        language,
-        context,
-        &state.environment,
-        parameters.as_slice(),
-    )?;
+    let inner = context.in_block(alloc, language, &state.environment, parameters.as_slice())?;
     block_inside(
         alloc,
         walk,

@@ -18,7 +18,7 @@ use srb_judgement::loops::{head, loop_left};
 use srb_judgement::states::{Jumps, State};
 use srb_judgement::tested::Tested;
 use srb_terms::{NoMemory, Ty};
-use srb_walk::around::{after, in_loop};
+use srb_walk::around::after;
 use srb_walk::names::loop_names;
 use srb_walk::walking::Walk;
 use std::alloc::Global;
@@ -81,7 +81,7 @@ pub fn modified_loop<W: Walk, L: Language>(
 ) -> Result<Ty, NoMemory>
     ensures { IfOk result (λ ty. judged ty (seen_state state.new) ≡ loops_spec.modified_loop (L.the language.now) which (known.part_in (L.the language.now) statement.now) (known.part_in (L.the language.now) condition.now) (seen_context context.now) (seen_state state.old)) }
 {
-    let inner = in_loop(alloc, language, context, &state.environment)?;
+    let inner = context.in_loop(alloc, language, &state.environment)?;
     let outer = to_head(alloc, language, context, state, condition, statement)?;
     behind_body(
         alloc, walk, language, &inner, state, outer, which, condition, statement,
@@ -155,7 +155,7 @@ pub fn while_loop<W: Walk, L: Language>(
 ) -> Result<Ty, NoMemory>
     ensures { IfOk result (λ ty. judged ty (seen_state state.new) ≡ loops_spec.loop_judged (L.the language.now) which (known.part_in (L.the language.now) condition.now) (known.part_in (L.the language.now) body.now) (seen_context context.now) (seen_state state.old)) }
 {
-    let inner = in_loop(alloc, language, context, &state.environment)?;
+    let inner = context.in_loop(alloc, language, &state.environment)?;
     let outer = to_head(alloc, language, context, state, condition, body)?;
     before_body(
         alloc, walk, language, &inner, state, outer, which, condition, body,

@@ -21,8 +21,8 @@ row-preserved g c = let the = g.L.Language.the c.args.language.now in record {
 
 pub row-init : goal.row-init
 row-init g c = let the = g.L.Language.the c.args.language.now in record {
-  judged = ap (λ x. with_parameters the c.args.method.now c.args.params.now (known_parameters the c.args.row.now) x (seen_state c.args.state.now)) c.in_ok-inner.ensures;
-  seen = ap (λ x. seeing_parameters the (known_parameters the c.args.row.now) x) c.in_ok-inner.ensures;
+  judged = ap (λ x. with_parameters the c.args.method.now c.args.params.now (known_parameters the c.args.row.now) (seen_context x) (seen_state c.args.state.now)) c.in_ok-inner.ensures;
+  seen = ap (λ x. seeing_parameters the (known_parameters the c.args.row.now) (seen_context x)) c.in_ok-inner.ensures;
 }
 
 pub returns : goal.returns

@@ -18,4 +18,4 @@ returns c =
       visible = c.new-2.result;
     } in
     new-same new (bare_context c.args.self_type c.args.scope c.args.owner c.args.meta c.args.checked) refl refl refl refl refl refl refl
-    c.new.ensures c.new-2.ensures.empty (λ name. refl) (λ name. refl)
+    c.new.ensures c.new-2.ensures (λ name. refl) (λ name. refl)

@@ -1,7 +1,8 @@
-use Rattle.std.proofs.Common.{◌≡◌, ℕ, suc, List, [], ◌∷◌, ◌++◌, take, ap, sym, subst, ◌∙◌, add-one}
+use Rattle.std.proofs.Common.{◌≡◌, ℕ, suc, List, [], ◌∷◌, ◌++◌, take, ap, sym, ◌∙◌, add-one}
 use Rattle.std.proofs.Math.Seq.{take-suc}
-use Rattle.srb_judgement.specs.Kept.{Grown}
-use Rattle.srb_judgement.proofs.KeptContexts.{grown-both}
+use Rattle.srb_judgement.specs.Kept.{seen_context}
+use Rattle.srb_judgement.specs.States.{seeing}
+use Rattle.srb_judgement.proofs.KeptContexts.{seeing-both}
 use Rattle.srb_judgement.proofs.contexts.Context.see_all.Goals as goal
 
 pub names-preserved : goal.names-preserved
@@ -13,5 +14,7 @@ names-preserved c =
     take-suc names i c.name-item.result c.names-test.true
     ∙ ap (λ n. take i names ++ n ∷ []) (sym c.name-item.is)
     ∙ ap (λ n. take i names ++ n ∷ []) (sym c.in_ok-copied.ensures) in
-    rw add-one (subst (λ ns. Grown ns c.args.self.now c.see.new.self) (sym e)
-    (grown-both (take i names) (copied ∷ []) c.args.self.now c.names.self c.see.new.self c.names.invariant c.in_ok-see.ensures))
+    rw add-one (c.in_ok-see.ensures
+    ∙ ap (λ k. seeing (copied ∷ []) k) c.names.invariant
+    ∙ seeing-both (take i names) (copied ∷ []) (seen_context c.args.self.now)
+    ∙ ap (λ ns. seeing ns (seen_context c.args.self.now)) (sym e))
