@@ -18,8 +18,8 @@ use Rattle.lsp_docs.specs.Documents.{placed, Documents, Deed, after_deed, opens,
 slashes_dropped : root_of (Some (codes "file:///p//")) ≡ codes "file:///p"
 slashes_dropped = refl
 
-slashes_behind_colon : root_of (Some (codes "file:///")) ≡ codes "file://"
-slashes_behind_colon = refl
+slashes_after_colon : root_of (Some (codes "file:///")) ≡ codes "file://"
+slashes_after_colon = refl
 
 no_root : root_of None ≡ codes "file://"
 no_root = refl
@@ -77,9 +77,9 @@ one_change from to new = Changed a_uri (record { range = Some (from, to); text =
 abbrev edited_to : Bytes → Option (Result Deed DocEnd)
 edited_to bytes = Some (Ok (Deed.Edits (record { path = codes "a.rb"; now = Some bytes }) (codes "a.rb" ∷ [])))
 
-behind_pair : applied open_smile (one_change (at 0 3) (at 0 4) (codes "c")) ≡ edited_to (97 ∷ 240 ∷ 159 ∷ 152 ∷ 128 ∷ 99 ∷ 10 ∷ [])
+after_pair : applied open_smile (one_change (at 0 3) (at 0 4) (codes "c")) ≡ edited_to (97 ∷ 240 ∷ 159 ∷ 152 ∷ 128 ∷ 99 ∷ 10 ∷ [])
 unfolding percent_decode is_utf8 chars encode
-behind_pair = refl
+after_pair = refl
 
 -- a position inside a pair is where the character starts
 inside_pair : applied open_smile (one_change (at 0 2) (at 0 3) []) ≡ edited_to (codes "ab\n")
@@ -146,10 +146,10 @@ goes_away = refl
 
 -- ---- places
 
-placed_behind_pair : placed (record { root = [] }) smile (record { span = record { start = 5; end = 6 }; number = 5002; text = [] })
+placed_after_pair : placed (record { root = [] }) smile (record { span = record { start = 5; end = 6 }; number = 5002; text = [] })
     ≡ record { start = at 0 3; end = at 0 4; number = 5002; text = [] }
 unfolding chars is_utf8 encode
-placed_behind_pair = refl
+placed_after_pair = refl
 
 -- the start of a file has a position also where the file is no text
 placed_at_start : placed (record { root = [] }) (255 ∷ []) (record { span = record { start = 0; end = 0 }; number = 9009; text = [] })

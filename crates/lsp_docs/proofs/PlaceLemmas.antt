@@ -1,4 +1,4 @@
--- The position of an offset inside a character is that of the character's start, and behind a text that of its end.
+-- The position of an offset inside a character is that of the character's start, and after a text that of its end.
 use Rattle.std.proofs.Common.{◌≡◌, ℕ, ◌+◌, ◌-◌, ◌<◌, ◌≤◌, List, [], ◌∷◌, ◌++◌, length, drop, refl, sym, ap, ◌∙◌, subst, ⊎_elim, arith}
 use Rattle.std.specs.Prelude.{sum_by, if◌then◌else◌}
 use Rattle.std.specs.Char.{len_utf8}
@@ -47,7 +47,7 @@ fitting_rises f j k (c ∷ cs) le =
 abbrev pub floor_of : List ℕ → ℕ → ℕ
 floor_of text at = byte_len (fitting len_utf8 at text)
 
--- in the content of a line, behind which more follows
+-- in the content of a line, after which more follows
 content_again : (content rest : List ℕ) (at : ℕ) → fitting len_utf8 (floor_of (content ++ rest) at) content ≡ fitting len_utf8 at content
 content_again content rest at =
     ⊎_elim
@@ -58,9 +58,9 @@ content_again content rest at =
     fitting_whole len_utf8 (floor_of (content ++ rest) at) content (omega (arith, all)) ∙ sym (fitting_whole len_utf8 at content le))
     (cases_lt at (byte_len content))
 
--- behind a whole line
-floor_behind : (line rest : List ℕ) (at : ℕ) → byte_len line ≤ at → floor_of (line ++ rest) at ≡ byte_len line + floor_of rest (at - byte_len line)
-floor_behind line rest at le =
+-- after a whole line
+floor_after : (line rest : List ℕ) (at : ℕ) → byte_len line ≤ at → floor_of (line ++ rest) at ≡ byte_len line + floor_of rest (at - byte_len line)
+floor_after line rest at le =
     ap byte_len (fitting-append_all len_utf8 at line rest le) ∙ sum_by-append len_utf8 line (fitting len_utf8 (at - byte_len line) rest)
 
 first_parts : (text rest : List ℕ) (l : Line) → IsFirstLine text l rest → text ≡ (l.content ++ l.ending) ++ rest
@@ -91,10 +91,10 @@ position_again weight (l ∷ m ∷ ls) text n at are =
     ∙ ap (λ (cs : List ℕ). place_of n (sum_by weight cs)) again
     ∙ sym (ap (λ b. if b then place_of n (sum_by weight (fitting len_utf8 at l.content)) else position_in len_utf8 weight (n + 1) (at - line_size len_utf8 l) (m ∷ ls)) (lt-ltb _ _ lt)))
     (λ (le : line_size len_utf8 l ≤ at).
-    let behind = floor_behind (l.content ++ l.ending) rest at (omega (arith, size, le)) in
+    let after = floor_after (l.content ++ l.ending) rest at (omega (arith, size, le)) in
     let same : floor_of text at - line_size len_utf8 l ≡ floor_of rest (at - line_size len_utf8 l) =
-    ap (λ k. floor_of text at - k) (sym size) ∙ ap (λ k. k - byte_len (l.content ++ l.ending)) (floor ∙ behind) ∙ omega arith ∙ ap (λ k. floor_of rest (at - k)) size in
-    let high : line_size len_utf8 l ≤ floor_of text at = omega (arith, floor, behind, size) in
+    ap (λ k. floor_of text at - k) (sym size) ∙ ap (λ k. k - byte_len (l.content ++ l.ending)) (floor ∙ after) ∙ omega arith ∙ ap (λ k. floor_of rest (at - k)) size in
+    let high : line_size len_utf8 l ≤ floor_of text at = omega (arith, floor, after, size) in
     ap (λ b. if b then place_of n (sum_by weight (fitting len_utf8 (floor_of text at) l.content)) else position_in len_utf8 weight (n + 1) (floor_of text at - line_size len_utf8 l) (m ∷ ls)) (le-ltb _ _ high)
     ∙ ap (λ k. position_in len_utf8 weight (n + 1) k (m ∷ ls)) same
     ∙ position_again weight (m ∷ ls) rest (n + 1) (at - line_size len_utf8 l) are.2

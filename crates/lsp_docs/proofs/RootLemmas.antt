@@ -1,4 +1,4 @@
--- Roots without their slashes, and what stands behind a front.
+-- Roots without their slashes, and what stands after a front.
 use Rattle.std.proofs.Common.{◌≡◌, ℕ, zero, suc, ◌+◌, ◌-◌, ◌<◌, ◌≤◌, Bool, true, false, not, ◌&&◌, ◌==◌, List, [], ◌∷◌, ◌++◌, length, take, drop, get_or, refl, sym, ap, ◌∙◌, subst, arith}
 use Rattle.std.specs.Prelude.{Some, None, bytes_eq, position, nat_lt, if◌then◌else◌}
 use Rattle.std.specs.List.{prefix_len}
@@ -10,7 +10,7 @@ use Rattle.std.proofs.Math.Seq.{take-add}
 use Rattle.std.proofs.lemmas.Option.{same_Some}
 use Rattle.std.proofs.lemmas.Slice.Eq.{bytes_eq-Decides}
 use Rattle.std.proofs.lemmas.Str.{IsCharBoundary-after_ascii}
-use Rattle.lsp_docs.specs.Uris.{SLASH, COLON, is_empty, without_slashes, behind_colon, trimmed, ends_in_rb, ruby_behind}
+use Rattle.lsp_docs.specs.Uris.{SLASH, COLON, is_empty, without_slashes, after_colon, trimmed, ends_in_rb, ruby_after}
 
 -- ---- the first colon
 abbrev no_colon : ℕ → Bool
@@ -32,7 +32,7 @@ without_colon (x ∷ xs) le = by (x == COLON) refl (without_colon xs)
     by true is rest = absurd (let long : prefix_len no_colon (x ∷ xs) ≡ 0 = rw is refl in omega (arith, le, long))
     by false is rest =
         let long : prefix_len no_colon (x ∷ xs) ≡ 1 + before_colon xs = rw is refl in
-        ap (λ b. if b then COLON ∷ behind_colon xs else (if x == SLASH && is_empty (trimmed xs) then [] else x ∷ trimmed xs)) is
+        ap (λ b. if b then COLON ∷ after_colon xs else (if x == SLASH && is_empty (trimmed xs) then [] else x ∷ trimmed xs)) is
         ∙ ap (λ t. if x == SLASH && is_empty t then [] else x ∷ t) (rest (omega (arith, le, long)))
 
 not_empty : (x : ℕ) (t : List ℕ) (y : ℕ) (ys : List ℕ) → t ≡ y ∷ ys → (if x == SLASH && is_empty t then [] else x ∷ t) ≡ x ∷ t
@@ -46,27 +46,27 @@ first_taken n (x ∷ xs) tail within =
     next_is : (k : ℕ) → k + 1 ≡ suc k
     next_is k = omega arith
 
-at_colon : (xs : List ℕ) → before_colon xs < length xs → trimmed xs ≡ take (before_colon xs + 1) xs ++ behind_colon (drop (before_colon xs + 1) xs)
+at_colon : (xs : List ℕ) → before_colon xs < length xs → trimmed xs ≡ take (before_colon xs + 1) xs ++ after_colon (drop (before_colon xs + 1) xs)
 at_colon [] within = absurd (omega (arith, within))
 at_colon (x ∷ xs) within = by (x == COLON) refl (at_colon xs)
   where
-    by : (b : Bool) → (x == COLON) ≡ b → (before_colon xs < length xs → trimmed xs ≡ take (before_colon xs + 1) xs ++ behind_colon (drop (before_colon xs + 1) xs))
-        → trimmed (x ∷ xs) ≡ take (before_colon (x ∷ xs) + 1) (x ∷ xs) ++ behind_colon (drop (before_colon (x ∷ xs) + 1) (x ∷ xs))
+    by : (b : Bool) → (x == COLON) ≡ b → (before_colon xs < length xs → trimmed xs ≡ take (before_colon xs + 1) xs ++ after_colon (drop (before_colon xs + 1) xs))
+        → trimmed (x ∷ xs) ≡ take (before_colon (x ∷ xs) + 1) (x ∷ xs) ++ after_colon (drop (before_colon (x ∷ xs) + 1) (x ∷ xs))
     by true is rest =
         let long : prefix_len no_colon (x ∷ xs) + 1 ≡ suc 0 = rw is refl in
-        ap (λ b. if b then COLON ∷ behind_colon xs else (if x == SLASH && is_empty (trimmed xs) then [] else x ∷ trimmed xs)) is
-        ∙ ap (λ c. c ∷ behind_colon xs) (sym (same_byte x COLON is))
-        ∙ sym (ap (λ n. take n (x ∷ xs) ++ behind_colon (drop n (x ∷ xs))) long)
+        ap (λ b. if b then COLON ∷ after_colon xs else (if x == SLASH && is_empty (trimmed xs) then [] else x ∷ trimmed xs)) is
+        ∙ ap (λ c. c ∷ after_colon xs) (sym (same_byte x COLON is))
+        ∙ sym (ap (λ n. take n (x ∷ xs) ++ after_colon (drop n (x ∷ xs))) long)
     by false is rest =
         let long : prefix_len no_colon (x ∷ xs) ≡ 1 + before_colon xs = rw is refl in
         let more : prefix_len no_colon (x ∷ xs) + 1 ≡ suc (before_colon xs + 1) = omega (arith, long) in
         let within' : before_colon xs < length xs = omega (arith, within, long) in
         let tail = rest within' in
-        let head = first_taken (before_colon xs) xs (behind_colon (drop (before_colon xs + 1) xs)) within' in
-        ap (λ b. if b then COLON ∷ behind_colon xs else (if x == SLASH && is_empty (trimmed xs) then [] else x ∷ trimmed xs)) is
+        let head = first_taken (before_colon xs) xs (after_colon (drop (before_colon xs + 1) xs)) within' in
+        ap (λ b. if b then COLON ∷ after_colon xs else (if x == SLASH && is_empty (trimmed xs) then [] else x ∷ trimmed xs)) is
         ∙ not_empty x (trimmed xs) head.0 head.1 (tail ∙ head.2)
         ∙ ap (λ t. x ∷ t) tail
-        ∙ sym (ap (λ n. take n (x ∷ xs) ++ behind_colon (drop n (x ∷ xs))) more)
+        ∙ sym (ap (λ n. take n (x ∷ xs) ++ after_colon (drop n (x ∷ xs))) more)
 
 position_none : (n len : ℕ) (b : Bool) → nat_lt n len ≡ b → (if b then Some n else None) ≡ None → len ≤ n
 position_none n len true is none = cc
@@ -80,10 +80,10 @@ pub no_colon_kept : (xs : List ℕ) → position (λ byte. byte == COLON) xs ≡
 no_colon_kept xs none = without_colon xs (position_none (before_colon xs) (length xs) (nat_lt (before_colon xs) (length xs)) refl none)
 
 pub colon_kept : (xs : List ℕ) (i : ℕ) → position (λ byte. byte == COLON) xs ≡ Some i
-    → trimmed xs ≡ take (i + 1) xs ++ behind_colon (drop (i + 1) xs)
+    → trimmed xs ≡ take (i + 1) xs ++ after_colon (drop (i + 1) xs)
 colon_kept xs i some =
     let at = position_some (before_colon xs) (length xs) i (nat_lt (before_colon xs) (length xs)) refl some in
-    subst (λ n. trimmed xs ≡ take (n + 1) xs ++ behind_colon (drop (n + 1) xs)) at.1 (at_colon xs at.0)
+    subst (λ n. trimmed xs ≡ take (n + 1) xs ++ after_colon (drop (n + 1) xs)) at.1 (at_colon xs at.0)
 
 -- two texts are compared alike in both ways
 two_ways : (xs ys : List ℕ) (b : Bool) → bytes_eq ys xs ≡ b → bytes_eq xs ys ≡ b
@@ -101,7 +101,7 @@ pub colon_alone : (xs rest : List ℕ) (i : ℕ) → position (λ byte. byte == 
     → bytes_eq (SLASH ∷ SLASH ∷ []) (take 2 rest) ≡ false → trimmed xs ≡ take (i + 1) xs ++ without_slashes (drop (i + 1) xs)
 colon_alone xs rest i some is test =
     let turned = two_ways (take 2 rest) (SLASH ∷ SLASH ∷ []) false test in
-    colon_kept xs i some ∙ ap (λ t. take (i + 1) xs ++ behind_colon t) (sym is)
+    colon_kept xs i some ∙ ap (λ t. take (i + 1) xs ++ after_colon t) (sym is)
     ∙ ap (λ b. take (i + 1) xs ++ (if b then SLASH ∷ SLASH ∷ without_slashes (drop 2 rest) else without_slashes rest)) turned
     ∙ ap (λ t. take (i + 1) xs ++ without_slashes t) is
 
@@ -112,7 +112,7 @@ colon_slashes xs rest i some is test =
     let two : take 2 (drop (i + 1) xs) ≡ SLASH ∷ SLASH ∷ [] = ap (take 2) (sym is) ∙ sym ((bytes_eq-Decides (SLASH ∷ SLASH ∷ []) (take 2 rest)).0 test) in
     let front : take (i + 3) xs ≡ take (i + 1) xs ++ SLASH ∷ SLASH ∷ [] = ap (λ n. take n xs) (three i) ∙ take-add (i + 1) 2 xs ∙ ap (λ t. take (i + 1) xs ++ t) two in
     let back : drop 2 (drop (i + 1) xs) ≡ drop (i + 3) xs = drop-drop 2 (i + 1) xs ∙ ap (λ n. drop n xs) (sym (three i)) in
-    colon_kept xs i some ∙ ap (λ t. take (i + 1) xs ++ behind_colon t) (sym is)
+    colon_kept xs i some ∙ ap (λ t. take (i + 1) xs ++ after_colon t) (sym is)
     ∙ ap (λ b. take (i + 1) xs ++ (if b then SLASH ∷ SLASH ∷ without_slashes (drop 2 rest) else without_slashes rest)) turned
     ∙ ap (λ t. take (i + 1) xs ++ SLASH ∷ SLASH ∷ without_slashes t) (ap (drop 2) is ∙ back)
     ∙ sym (append_assoc (take (i + 1) xs) (SLASH ∷ SLASH ∷ []) (without_slashes (drop (i + 3) xs)))
@@ -189,7 +189,7 @@ none_left xs kept end le ge =
     ap (λ n. take kept xs ++ without_slashes (drop kept (take n xs))) same
     ∙ ap (λ t. take kept xs ++ without_slashes t) (drop_taken kept xs) ∙ append_nil (take kept xs) ∙ ap (λ n. take n xs) (sym same)
 
--- ---- behind a front that ends in a slash
+-- ---- after a front that ends in a slash
 nonempty : (front : List ℕ) → get_or front (length front - 1) 0 ≡ 47 → 0 < length front
 nonempty [] is = absurd (omega (arith, is))
 nonempty (x ∷ xs) is = omega arith
@@ -205,7 +205,7 @@ get_taken (suc n) [] i less = refl
 get_taken (suc n) (x ∷ xs) zero less = refl
 get_taken (suc n) (x ∷ xs) (suc i) less = get_taken n xs i (omega (arith, less))
 
-pub no_front : (front text : List ℕ) → IsUtf8 text → get_or front (length front - 1) 0 ≡ 47 → ¬ (IsCharBoundary text (length front)) → ruby_behind front text ≡ None
+pub no_front : (front text : List ℕ) → IsUtf8 text → get_or front (length front - 1) 0 ≡ 47 → ¬ (IsCharBoundary text (length front)) → ruby_after front text ≡ None
 no_front front text utf8 slash no_cut = by (bytes_eq (take (length front) text) front) refl
   where
     cut : take (length front) text ≡ front → IsCharBoundary text (length front)
@@ -215,7 +215,7 @@ no_front front text utf8 slash no_cut = by (bytes_eq (take (length front) text) 
         let byte : get_or text (length front - 1) 0 ≡ 47 = sym (get_taken (length front) text (length front - 1) (omega (arith, some))) ∙ ap (λ t. get_or t (length front - 1) 0) same ∙ slash in
         subst (λ n. IsCharBoundary text n) (omega (arith, some)) (IsCharBoundary-after_ascii text (length front - 1) utf8 (omega (arith, some, long)) (omega (arith, byte)))
 
-    by : (b : Bool) → bytes_eq (take (length front) text) front ≡ b → ruby_behind front text ≡ None
+    by : (b : Bool) → bytes_eq (take (length front) text) front ≡ b → ruby_after front text ≡ None
     by true is = absurd (no_cut (cut ((bytes_eq-Decides (take (length front) text) front).0 is)))
     by false is = ap (λ b. if b && ends_in_rb (drop (length front) text) then Some (drop (length front) text) else None) is
 

@@ -8,12 +8,12 @@ use Rattle.std.specs.Cmp.Lexicographic.{nat_list_cmp_total, texts_ties}
 use Rattle.std.specs.Ordering.{is_eq, match_ordering, ordering_reverse, ordering_index}
 use Rattle.std.specs.declared.cmp.Ordering.{Ordering}
 use Rattle.std.specs.declared.cmp.Ordering.TheVariants.{Less, Equal, Greater}
-use Rattle.srb_terms.specs.Projects.{File, IsBeforeAll, IsBehindAll, IsProject, bytes_at, path_cmp, put_file}
-use Rattle.srb_terms.proofs.ProjectOrder.{put_file-behind}
+use Rattle.srb_terms.specs.Projects.{File, IsBeforeAll, IsAfterAll, IsProject, bytes_at, path_cmp, put_file}
+use Rattle.srb_terms.proofs.ProjectOrder.{put_file-after}
 use Rattle.lsp_docs.specs.declared.row.Row.{Row}
 use Rattle.lsp_docs.specs.Paths.{Path, Bytes, with_path, without_path, is_before}
 use Rattle.lsp_docs.specs.Projects.{Project, paths_of, without_file, with_bytes, total_bytes}
-use Rattle.lsp_docs.specs.Rows.{present_of, size_of, with_front, reading, project_of, IsBehindRows, IsBeforeRows, AreRows, IsPlaceOf}
+use Rattle.lsp_docs.specs.Rows.{present_of, size_of, with_front, reading, project_of, IsAfterRows, IsBeforeRows, AreRows, IsPlaceOf}
 
 -- ---- two paths
 pub turned : (f g : Path) (o : Ordering) → path_cmp f g ≡ o → path_cmp g f ≡ ordering_reverse o
@@ -46,11 +46,11 @@ without_file-before f (file ∷ files) all =
     ap (λ b. if b then without_file f files else file ∷ without_file f files) (less_apart f file.0 all.0)
     ∙ ap (λ rest. file ∷ rest) (without_file-before f files all.1)
 
-without_file-behind : (f : Path) (p q : Project) → IsBehindAll f p → without_file f (p ++ q) ≡ p ++ without_file f q
-without_file-behind f [] q all = refl
-without_file-behind f (file ∷ files) q all =
+without_file-after : (f : Path) (p q : Project) → IsAfterAll f p → without_file f (p ++ q) ≡ p ++ without_file f q
+without_file-after f [] q all = refl
+without_file-after f (file ∷ files) q all =
     ap (λ b. if b then without_file f (files ++ q) else file ∷ without_file f (files ++ q)) (greater_apart f file.0 all.0)
-    ∙ ap (λ rest. file ∷ rest) (without_file-behind f files q all.1)
+    ∙ ap (λ rest. file ∷ rest) (without_file-after f files q all.1)
 
 put_file-before : (f : Path) (b : Bytes) (p : Project) → IsBeforeAll f p → put_file f b p ≡ (f, b) ∷ p
 put_file-before f b [] all = refl
@@ -65,14 +65,14 @@ with_bytes-front f (Some b) None q all = put_file-before f b q all
 with_bytes-front f (Some b) (Some w) q all =
     ap (λ o. match_ordering o ((f, b) ∷ (f, w) ∷ q) ((f, b) ∷ q) ((f, w) ∷ put_file f b q)) (self_cmp f)
 
-with_bytes-behind : (f : Path) (o : Option Bytes) (p q : Project) → IsBehindAll f p → with_bytes f o (p ++ q) ≡ p ++ with_bytes f o q
-with_bytes-behind f None p q all = without_file-behind f p q all
-with_bytes-behind f (Some b) p q all = put_file-behind f b p q all
+with_bytes-after : (f : Path) (o : Option Bytes) (p q : Project) → IsAfterAll f p → with_bytes f o (p ++ q) ≡ p ++ with_bytes f o q
+with_bytes-after f None p q all = without_file-after f p q all
+with_bytes-after f (Some b) p q all = put_file-after f b p q all
 
-with_bytes-between : (f : Path) (o was : Option Bytes) (p q : Project) → IsBehindAll f p → IsBeforeAll f q
+with_bytes-between : (f : Path) (o was : Option Bytes) (p q : Project) → IsAfterAll f p → IsBeforeAll f q
     → with_bytes f o (p ++ with_front f was q) ≡ p ++ with_front f o q
-with_bytes-between f o was p q behind before =
-    with_bytes-behind f o p (with_front f was q) behind ∙ ap (λ rest. p ++ rest) (with_bytes-front f o was q before)
+with_bytes-between f o was p q after before =
+    with_bytes-after f o p (with_front f was q) after ∙ ap (λ rest. p ++ rest) (with_bytes-front f o was q before)
 
 bytes_at-before : (f : Path) (q : Project) → IsBeforeAll f q → bytes_at f q ≡ None
 bytes_at-before f [] all = refl
@@ -83,11 +83,11 @@ bytes_at-front : (f : Path) (was : Option Bytes) (q : Project) → IsBeforeAll f
 bytes_at-front f None q all = bytes_at-before f q all
 bytes_at-front f (Some w) q all = ap (λ b. if b then Some w else bytes_at f q) (self_eq f)
 
-bytes_at-between : (f : Path) (was : Option Bytes) (p q : Project) → IsBehindAll f p → IsBeforeAll f q → bytes_at f (p ++ with_front f was q) ≡ was
-bytes_at-between f was [] q behind before = bytes_at-front f was q before
-bytes_at-between f was (file ∷ files) q behind before =
-    ap (λ b. if b then Some file.1 else bytes_at f (files ++ with_front f was q)) (greater_apart f file.0 behind.0)
-    ∙ bytes_at-between f was files q behind.1 before
+bytes_at-between : (f : Path) (was : Option Bytes) (p q : Project) → IsAfterAll f p → IsBeforeAll f q → bytes_at f (p ++ with_front f was q) ≡ was
+bytes_at-between f was [] q after before = bytes_at-front f was q before
+bytes_at-between f was (file ∷ files) q after before =
+    ap (λ b. if b then Some file.1 else bytes_at f (files ++ with_front f was q)) (greater_apart f file.0 after.0)
+    ∙ bytes_at-between f was files q after.1 before
 
 total_bytes-front : (f : Path) (was : Option Bytes) (q : Project) → total_bytes (with_front f was q) ≡ size_of was + total_bytes q
 total_bytes-front f None q = omega arith
@@ -141,11 +141,11 @@ reading-append get [] ys = refl
 reading-append get (r ∷ rs) ys =
     ap (λ p. with_front r.path (get r) p) (reading-append get rs ys) ∙ front-append r.path (get r) (reading get rs) (reading get ys)
 
-IsBehindAll-reading : (get : Row → Option Bytes) (f : Path) (rows : List Row) → IsBehindRows f rows → IsBehindAll f (reading get rows)
-IsBehindAll-reading get f [] all = tt
-IsBehindAll-reading get f (r ∷ rs) all = by (get r) (IsBehindAll-reading get f rs all.1)
+IsAfterAll-reading : (get : Row → Option Bytes) (f : Path) (rows : List Row) → IsAfterRows f rows → IsAfterAll f (reading get rows)
+IsAfterAll-reading get f [] all = tt
+IsAfterAll-reading get f (r ∷ rs) all = by (get r) (IsAfterAll-reading get f rs all.1)
   where
-    by : (o : Option Bytes) → IsBehindAll f (reading get rs) → IsBehindAll f (with_front r.path o (reading get rs))
+    by : (o : Option Bytes) → IsAfterAll f (reading get rs) → IsAfterAll f (with_front r.path o (reading get rs))
     by None rest = rest
     by (Some b) rest = (all.0, rest)
 
@@ -206,7 +206,7 @@ pub record Turned (f : Path) (old new : List Row) (was now : Option Row) : Type 
   pub new_is : new ≡ front ++ onto now back
   pub was_path : IfSome was (λ (r : Row). r.path ≡ f)
   pub now_path : IfSome now (λ (r : Row). r.path ≡ f)
-  pub behind : IsBehindRows f front
+  pub after : IsAfterRows f front
   pub before : IsBeforeRows f back
 
 reading-onto : (get : Row → Option Bytes) (f : Path) (o : Option Row) (rs : List Row) → IfSome o (λ (r : Row). r.path ≡ f)
@@ -224,7 +224,7 @@ pub turned-reading : (get : Row → Option Bytes) (f : Path) (old new : List Row
 turned-reading get f old new was now t =
     ap (reading get) t.new_is ∙ reading-parts get f t.front t.back now t.now_path
     ∙ sym (with_bytes-between f (of_row get now) (of_row get was) (reading get t.front) (reading get t.back)
-    (IsBehindAll-reading get f t.front t.behind) (IsBeforeAll-reading get f t.back t.before))
+    (IsAfterAll-reading get f t.front t.after) (IsBeforeAll-reading get f t.back t.before))
     ∙ ap (with_bytes f (of_row get now)) (sym (ap (reading get) t.old_is ∙ reading-parts get f t.front t.back was t.was_path))
 
 pub turned-bytes : (get : Row → Option Bytes) (f : Path) (old new : List Row) (was now : Option Row) → Turned f old new was now
@@ -232,7 +232,7 @@ pub turned-bytes : (get : Row → Option Bytes) (f : Path) (old new : List Row) 
 turned-bytes get f old new was now t =
     ap (bytes_at f) (ap (reading get) t.old_is ∙ reading-parts get f t.front t.back was t.was_path)
     ∙ bytes_at-between f (of_row get was) (reading get t.front) (reading get t.back)
-    (IsBehindAll-reading get f t.front t.behind) (IsBeforeAll-reading get f t.back t.before)
+    (IsAfterAll-reading get f t.front t.after) (IsBeforeAll-reading get f t.back t.before)
 
 total-parts : (f : Path) (front back : List Row) (o : Option Row) → IfSome o (λ (r : Row). r.path ≡ f)
     → total_bytes (project_of (front ++ onto o back)) ≡ total_bytes (project_of front) + (size_of (of_row present_of o) + total_bytes (project_of back))
@@ -263,7 +263,7 @@ turned-with f old new was now t o =
     let front = project_of t.front in
     let back = project_of t.back in
     let parts = ap (reading present_of) t.old_is ∙ reading-parts present_of f t.front t.back was t.was_path in
-    let with_o = ap (with_bytes f o) parts ∙ with_bytes-between f o (of_row present_of was) front back (IsBehindAll-reading present_of f t.front t.behind) (IsBeforeAll-reading present_of f t.back t.before) in
+    let with_o = ap (with_bytes f o) parts ∙ with_bytes-between f o (of_row present_of was) front back (IsAfterAll-reading present_of f t.front t.after) (IsBeforeAll-reading present_of f t.back t.before) in
     let a = ap total_bytes with_o ∙ sum_by-append (λ (file : File). length file.1) front (with_front f o back) in
     let b = ap total_bytes parts ∙ sum_by-append (λ (file : File). length file.1) front (with_front f (of_row present_of was) back) in
     omega (arith, a, b, total_bytes-front f o back, total_bytes-front f (of_row present_of was) back)
@@ -300,47 +300,47 @@ IsBeforeRows-onto : (g f : Path) (o : Option Row) (rs : List Row) → IfSome o (
 IsBeforeRows-onto g f None rs path less rest = rest
 IsBeforeRows-onto g f (Some r) rs path less rest = (ap (path_cmp g) path ∙ less, rest)
 
-behind_onto : (g : Path) (o : Option Row) (rs : List Row) → IsBeforeRows g (onto o rs) → IsBeforeRows g rs
-behind_onto g None rs all = all
-behind_onto g (Some r) rs all = all.1
+after_onto : (g : Path) (o : Option Row) (rs : List Row) → IsBeforeRows g (onto o rs) → IsBeforeRows g rs
+after_onto g None rs all = all
+after_onto g (Some r) rs all = all.1
 
 AreRows-onto : (f : Path) (o : Option Row) (rs : List Row) → IfSome o (λ (r : Row). r.path ≡ f) → IfSome o (λ r. IsSome (present_of r))
     → IsBeforeRows f rs → AreRows rs → AreRows (onto o rs)
 AreRows-onto f None rs path present before are = are
 AreRows-onto f (Some r) rs path present before are = (present, subst (λ g. IsBeforeRows g rs) (sym path) before, are)
 
-rows_behind : (o : Option Row) (rs : List Row) → AreRows (onto o rs) → AreRows rs
-rows_behind None rs are = are
-rows_behind (Some r) rs are = are.2
+rows_after : (o : Option Row) (rs : List Row) → AreRows (onto o rs) → AreRows rs
+rows_after None rs are = are
+rows_after (Some r) rs are = are.2
 
 AreRows-turned : (f : Path) (front back : List Row) (was now : Option Row) → IfSome now (λ (r : Row). r.path ≡ f)
-    → IfSome now (λ r. IsSome (present_of r)) → IsBehindRows f front → IsBeforeRows f back
+    → IfSome now (λ r. IsSome (present_of r)) → IsAfterRows f front → IsBeforeRows f back
     → AreRows (front ++ onto was back) → AreRows (front ++ onto now back)
-AreRows-turned f [] back was now path present behind before are =
-    AreRows-onto f now back path present before (rows_behind was back are)
-AreRows-turned f (x ∷ xs) back was now path present behind before are = (
+AreRows-turned f [] back was now path present after before are =
+    AreRows-onto f now back path present before (rows_after was back are)
+AreRows-turned f (x ∷ xs) back was now path present after before are = (
   are.0,
   IsBeforeRows-append x.path xs (onto now back) (IsBeforeRows-front x.path xs (onto was back) are.1)
-      (IsBeforeRows-onto x.path f now back path (turned f x.path Greater behind.0) (behind_onto x.path was back (IsBeforeRows-back x.path xs (onto was back) are.1))),
-  AreRows-turned f xs back was now path present behind.1 before are.2,
+      (IsBeforeRows-onto x.path f now back path (turned f x.path Greater after.0) (after_onto x.path was back (IsBeforeRows-back x.path xs (onto was back) are.1))),
+  AreRows-turned f xs back was now path present after.1 before are.2,
 )
 
 pub turned-rows : (f : Path) (old new : List Row) (was now : Option Row) → Turned f old new was now
     → AreRows old → IfSome now (λ r. IsSome (present_of r)) → AreRows new
 turned-rows f old new was now t are present =
-    subst AreRows (sym t.new_is) (AreRows-turned f t.front t.back was now t.now_path present t.behind t.before (subst AreRows t.old_is are))
+    subst AreRows (sym t.new_is) (AreRows-turned f t.front t.back was now t.now_path present t.after t.before (subst AreRows t.old_is are))
 
 -- ---- where rows are turned
 pub record Around (f : Path) (front back : List Row) : Type 0 where
-  pub behind : IsBehindRows f front
+  pub after : IsAfterRows f front
   pub before : IsBeforeRows f back
 
 around : (front : List Row) (r : Row) (back : List Row) → AreRows (front ++ r ∷ back) → Around r.path front back
-around [] r back are = record { behind = tt; before = are.1 }
+around [] r back are = record { after = tt; before = are.1 }
 around (x ∷ xs) r back are =
     let rest = around xs r back are.2 in
     let less : path_cmp x.path r.path ≡ Less = (IsBeforeRows-back x.path xs (r ∷ back) are.1).0 in
-    record { behind = (turned x.path r.path Less less, rest.behind); before = rest.before }
+    record { after = (turned x.path r.path Less less, rest.after); before = rest.before }
 
 split_at : (rows : List Row) (i : ℕ) (r : Row) → slice_get rows i ≡ Some r → rows ≡ take i rows ++ r ∷ drop (suc i) rows
 split_at [] i r is = cc
@@ -364,7 +364,7 @@ turned_set rows i r now are is path =
       new_is = set_split rows i now (get_within rows i r is);
       was_path = refl;
       now_path = path;
-      behind = parts.behind;
+      after = parts.after;
       before = parts.before;
     }
 
@@ -380,7 +380,7 @@ turned_removed rows i r are is =
       new_is = refl;
       was_path = refl;
       now_path = tt;
-      behind = parts.behind;
+      after = parts.after;
       before = parts.before;
     }
 
@@ -393,7 +393,7 @@ turned_inserted f rows i now place path = record {
   new_is = refl;
   was_path = tt;
   now_path = path;
-  behind = place.behind;
+  after = place.after;
   before = place.before;
 }
 
@@ -405,7 +405,7 @@ turned_none f rows i place = record {
   new_is = sym (take-append-drop i rows);
   was_path = tt;
   now_path = tt;
-  behind = place.behind;
+  after = place.after;
   before = place.before;
 }
 

@@ -16,7 +16,7 @@ use Rattle.lsp_docs.specs.Paths.{Path, Bytes, has}
 use Rattle.lsp_docs.specs.Projects.{paths_of, total_bytes}
 use Rattle.lsp_docs.specs.Documents.{MOST_FILES}
 use Rattle.srb_text.specs.Limits.{MOST_BYTES}
-use Rattle.lsp_docs.specs.Rows.{present_of, size_of, reading, project_of, closed_row, IsBehindRows, IsBeforeRows, AreRows, IsPlaceOf, IsRowAt}
+use Rattle.lsp_docs.specs.Rows.{present_of, size_of, reading, project_of, closed_row, IsAfterRows, IsBeforeRows, AreRows, IsPlaceOf, IsRowAt}
 use Rattle.lsp_docs.proofs.PathLemmas.{has-paths_of}
 use Rattle.lsp_docs.proofs.RowLemmas.{turned, same_cmp, turned_set, turned_removed, turned_inserted, turned_none, turned-bytes, turned-rows, turned-total, size_within, get_within}
 
@@ -162,12 +162,12 @@ rows_rise f (x ∷ rs) are zero (suc j) d le within =
 rows_rise f (x ∷ rs) are (suc i) zero d le within = absurd (omega (arith, le))
 rows_rise f (x ∷ rs) are (suc i) (suc j) d le within = rows_rise f rs are.2 i j d (omega (arith, le)) (omega (arith, within))
 
-behind_taken : (f : Path) (rows : List Row) (i : ℕ) → i ≤ length rows
-    → ((k : ℕ) (d : Row) → k < i → path_cmp (get_or rows k d).path f ≡ Less) → IsBehindRows f (take i rows)
-behind_taken f rows zero within each = tt
-behind_taken f [] (suc i) within each = absurd (omega (arith, within))
-behind_taken f (x ∷ rs) (suc i) within each =
-    (turned x.path f Less (each zero x (omega arith)), behind_taken f rs i (omega (arith, within)) (λ k d less. each (suc k) d (omega (arith, less))))
+after_taken : (f : Path) (rows : List Row) (i : ℕ) → i ≤ length rows
+    → ((k : ℕ) (d : Row) → k < i → path_cmp (get_or rows k d).path f ≡ Less) → IsAfterRows f (take i rows)
+after_taken f rows zero within each = tt
+after_taken f [] (suc i) within each = absurd (omega (arith, within))
+after_taken f (x ∷ rs) (suc i) within each =
+    (turned x.path f Less (each zero x (omega arith)), after_taken f rs i (omega (arith, within)) (λ k d less. each (suc k) d (omega (arith, less))))
 
 before_dropped : (f : Path) (rows : List Row) (i : ℕ) → i ≤ length rows
     → ((k : ℕ) (d : Row) → i ≤ k → k < length rows → path_cmp (get_or rows k d).path f ≡ Greater) → IsBeforeRows f (drop i rows)
@@ -187,7 +187,7 @@ absent_place f rows (Err i) are range search_is =
     let point = search_is (rows_rise f rows are) in
     record {
       within = range;
-      behind = behind_taken f rows i range (λ k d less. point.0 k d (omega arith) less);
+      after = after_taken f rows i range (λ k d less. point.0 k d (omega arith) less);
       before = before_dropped f rows i range (λ k d le less. point.1 k d le less);
     }
 

@@ -16,7 +16,7 @@ use Rattle.percent_encoding.specs.AsciiSet.{should_percent_encode}
 use Rattle.percent_encoding.specs.Percent.{percent_decode, percent_encode, percent_encode_byte, encode_byte, is_escape}
 use Rattle.lsp_docs.specs.declared.uris.TheConstants.{ESCAPED}
 use Rattle.lsp_docs.specs.Paths.{Path}
-use Rattle.lsp_docs.specs.Uris.{SLASH, is_plain, escaped, uri_below, ends_in_rb, ruby_behind, path_below}
+use Rattle.lsp_docs.specs.Uris.{SLASH, is_plain, escaped, uri_below, ends_in_rb, ruby_after, path_below}
 use Rattle.lsp_docs.proofs.PathLemmas.{self_path}
 
 -- ---- no two paths have one URI
@@ -56,14 +56,14 @@ escaped_differs (b ∷ bs) (c ∷ cs) e =
     let k = h.0 in
     cc
 
-same_behind : (front xs ys : List ℕ) → front ++ xs ≡ front ++ ys → xs ≡ ys
-same_behind [] xs ys e = e
-same_behind (c ∷ cs) xs ys e = same_behind cs xs ys cc
+same_after : (front xs ys : List ℕ) → front ++ xs ≡ front ++ ys → xs ≡ ys
+same_after [] xs ys e = e
+same_after (c ∷ cs) xs ys e = same_after cs xs ys cc
 
 -- No two paths have one URI.
 pub uri_below_differs : (root : List ℕ) (f g : Path) → uri_below root f ≡ uri_below root g → f ≡ g
 uri_below_differs root f g e =
-    let t = same_behind root (SLASH ∷ escaped f) (SLASH ∷ escaped g) e in
+    let t = same_after root (SLASH ∷ escaped f) (SLASH ∷ escaped g) e in
     escaped_differs f g cc
 
 -- ---- decoding
@@ -171,8 +171,8 @@ drop_front : (xs ys : List ℕ) → drop (length xs) (xs ++ ys) ≡ ys
 drop_front [] ys = refl
 drop_front (x ∷ xs) ys = drop_front xs ys
 
-ruby_behind_front : (front f : List ℕ) → ends_in_rb f ≡ true → ruby_behind front (front ++ f) ≡ Some f
-ruby_behind_front front f rb =
+ruby_after_front : (front f : List ℕ) → ends_in_rb f ≡ true → ruby_after front (front ++ f) ≡ Some f
+ruby_after_front front f rb =
     let s = self_path front in
     rw (take_front front f, drop_front front f) (grind (arith, nat_tests, s, rb))
 
@@ -212,7 +212,7 @@ path_of_uri root f front text rb =
     let whole : IsUtf8 ((percent_decode root ++ SLASH ∷ []) ++ f) =
     IsUtf8-append _ _ (IsUtf8-append _ _ front slash_text) text in
     rw (decode_uri root f (AreBytes-IsUtf8 f text))
-    (cond-true _ _ _ (is_utf8-from_IsUtf8 _ whole) ∙ ruby_behind_front (percent_decode root ++ SLASH ∷ []) f rb)
+    (cond-true _ _ _ (is_utf8-from_IsUtf8 _ whole) ∙ ruby_after_front (percent_decode root ++ SLASH ∷ []) f rb)
 
 -- ---- what is escaped
 -- one of the two holds
@@ -284,12 +284,12 @@ no_text true bytes is not_text = absurd (not_text (IsUtf8-from_is_utf8 bytes is)
 no_text false bytes is not_text = refl
 
 abbrev path_if_text : List ℕ → List ℕ → Bool → Option Path
-path_if_text front text b = if b then ruby_behind front text else None
+path_if_text front text b = if b then ruby_after front text else None
 
 pub path_none : (root uri : List ℕ) → ¬ (IsUtf8 (percent_decode uri)) → path_below root uri ≡ None
 path_none root uri not_text =
     ap (path_if_text (percent_decode root ++ SLASH ∷ []) (percent_decode uri)) (no_text (is_utf8 (percent_decode uri)) (percent_decode uri) refl not_text)
 
-pub path_some : (root uri : List ℕ) → IsUtf8 (percent_decode uri) → path_below root uri ≡ ruby_behind (percent_decode root ++ SLASH ∷ []) (percent_decode uri)
+pub path_some : (root uri : List ℕ) → IsUtf8 (percent_decode uri) → path_below root uri ≡ ruby_after (percent_decode root ++ SLASH ∷ []) (percent_decode uri)
 path_some root uri text =
     ap (path_if_text (percent_decode root ++ SLASH ∷ []) (percent_decode uri)) (is_utf8-from_IsUtf8 (percent_decode uri) text)

@@ -92,7 +92,7 @@ opens d text f =
     if not (is_some (bytes_at f d.project)) && nat_le MOST_FILES (length d.project) then Err (TooMany (length d.project))
     else sized d (record { path = f; now = Some text }) (with_path f d.opened)
 
--- the text in which `new` stands between two offsets, unless the first is behind the second
+-- the text in which `new` stands between two offsets, unless the first is after the second
 abbrev pub between : Agreed → List ℕ → Pos → Pos → List ℕ → Result (List ℕ) DocEnd
 between agreed text from to new =
     if nat_lt (offset_of (weight agreed) text to) (offset_of (weight agreed) text from)

@@ -54,10 +54,10 @@ documents_of agreed rows = record {
   opened = paths_of (reading (λ r. r.text) rows);
 }
 
--- the path stands behind that of each row, or before it
-abbrev pub IsBehindRows : Path → List Row → Type 0
-IsBehindRows f [] = Unit {0}
-IsBehindRows f (r ∷ rs) = (path_cmp f r.path ≡ Greater) × IsBehindRows f rs
+-- the path stands after that of each row, or before it
+abbrev pub IsAfterRows : Path → List Row → Type 0
+IsAfterRows f [] = Unit {0}
+IsAfterRows f (r ∷ rs) = (path_cmp f r.path ≡ Greater) × IsAfterRows f rs
 
 abbrev pub IsBeforeRows : Path → List Row → Type 0
 IsBeforeRows f [] = Unit {0}
@@ -76,7 +76,7 @@ pub record IsRowAt (f : Path) (rows : List Row) (i : ℕ) (r : Row) : Type 0 whe
 -- a row of the path belongs before that at this index
 pub record IsPlaceOf (f : Path) (rows : List Row) (i : ℕ) : Type 0 where
   pub within : i ≤ length rows
-  pub behind : IsBehindRows f (take i rows)
+  pub after : IsAfterRows f (take i rows)
   pub before : IsBeforeRows f (drop i rows)
 
 -- what is done to documents, which may be refused

@@ -23,18 +23,18 @@ without_slashes [] = []
 without_slashes (c ∷ cs) =
     if c == SLASH && is_empty (without_slashes cs) then [] else c ∷ without_slashes cs
 
--- what stands behind the first colon without the slashes at its end, of which two that stand directly
--- behind the colon stay
-abbrev pub behind_colon : List ℕ → List ℕ
-behind_colon text =
+-- what stands after the first colon without the slashes at its end, of which two that stand directly
+-- after the colon stay
+abbrev pub after_colon : List ℕ → List ℕ
+after_colon text =
     if bytes_eq (take 2 text) (SLASH ∷ SLASH ∷ []) then SLASH ∷ SLASH ∷ without_slashes (drop 2 text)
     else without_slashes text
 
--- a URI without the slashes at its end, of which two that stand directly behind the first colon stay
+-- a URI without the slashes at its end, of which two that stand directly after the first colon stay
 abbrev pub trimmed : List ℕ → List ℕ
 trimmed [] = []
 trimmed (c ∷ cs) =
-    if c == COLON then COLON ∷ behind_colon cs
+    if c == COLON then COLON ∷ after_colon cs
     else (if c == SLASH && is_empty (trimmed cs) then [] else c ∷ trimmed cs)
 
 -- the root of a session: what `initialize` named, trimmed, else `file://`
@@ -62,9 +62,9 @@ uri_below root f = root ++ SLASH ∷ escaped f
 abbrev pub ends_in_rb : List ℕ → Bool
 ends_in_rb text = bytes_eq (drop (length text - 3) text) (codes ".rb")
 
--- what stands in the text behind this front, if it ends in `.rb`
-abbrev pub ruby_behind : List ℕ → List ℕ → Option Path
-ruby_behind front text =
+-- what stands in the text after this front, if it ends in `.rb`
+abbrev pub ruby_after : List ℕ → List ℕ → Option Path
+ruby_after front text =
     if bytes_eq (take (length front) text) front && ends_in_rb (drop (length front) text)
     then Some (drop (length front) text) else None
 
@@ -72,4 +72,4 @@ ruby_behind front text =
 -- the path, which ends in `.rb`, is the rest.
 abbrev pub path_below : List ℕ → List ℕ → Option Path
 path_below root uri =
-    if is_utf8 (percent_decode uri) then ruby_behind (percent_decode root ++ SLASH ∷ []) (percent_decode uri) else None
+    if is_utf8 (percent_decode uri) then ruby_after (percent_decode root ++ SLASH ∷ []) (percent_decode uri) else None

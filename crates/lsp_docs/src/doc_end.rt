@@ -11,7 +11,7 @@ pub enum DocEnd {
     Unknown,
     /// The path is new, and the project has this many files, which are all that it may have.
     TooMany { count: u64 },
-    /// A range would start behind its end: these are the offsets of both, in bytes.
+    /// A range would start after its end: these are the offsets of both, in bytes.
     Backwards { start: u32, end: u32 },
     /// The texts of the project would have this many bytes together, which are too many.
     TooBig { bytes: u64 },

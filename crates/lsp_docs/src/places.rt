@@ -30,7 +30,7 @@ fn placed_one(text: &Text, error: &Diag) -> Result<Placed, NoMemory>
     })
 }
 
-// The position of any offset in bytes: inside a character that of its start, behind the text that of its end.
+// The position of any offset in bytes: inside a character that of its start, after the text that of its end.
 fn position(text: &Text, at: u32) -> Pos
     ensures { result ≡ position_of len_utf16 (text_of (encode_utf8_all text.now)) at }
 {

@@ -1,7 +1,7 @@
 //! Roots and URIs (RFC 3986): the root of a session, the URI of a path below it, and the path that a URI names.
 ghost use Rattle.std.specs.Prelude.{◌≡◌, ◌-◌, ◌≤◌, ◌==◌, ◌++◌, length, take, drop, position, slice_index, IfOk};
 ghost use Rattle.std.specs.Option.{option_copied};
-ghost use Rattle.lsp_docs.specs.Uris.{COLON, root_of, ruby_behind, trimmed, without_slashes, uri_below, path_below};
+ghost use Rattle.lsp_docs.specs.Uris.{COLON, root_of, ruby_after, trimmed, without_slashes, uri_below, path_below};
 
 use percent_encoding::{AsciiSet, NON_ALPHANUMERIC, ascii_set, percent_decode, percent_encode};
 use srb_terms::{Name, NoMemory, Words};
@@ -29,7 +29,7 @@ pub fn root_of(alloc: Global, named: Option<&Words>) -> Result<Words, NoMemory>
     }
 }
 
-// The URI without the slashes at its end, of which two that stand directly behind the first colon stay.
+// The URI without the slashes at its end, of which two that stand directly after the first colon stay.
 fn trimmed(uri: &str) -> &str
     ensures { result.now ≡ trimmed uri.now }
 {
@@ -42,7 +42,7 @@ fn trimmed(uri: &str) -> &str
     &uri[..end]
 }
 
-// The length of the front that stays: up to the first colon, and two slashes that stand directly behind it.
+// The length of the front that stays: up to the first colon, and two slashes that stand directly after it.
 fn kept_len(uri: &[u8]) -> usize
     ensures bound { result ≤ length uri.now }
     ensures trimmed { trimmed uri.now ≡ take result uri.now ++ without_slashes (drop result uri.now) }
@@ -85,16 +85,16 @@ pub fn path_below(alloc: Global, root: &str, uri: &str) -> Result<Option<Name>, 
     let Ok(text) = std::str::from_utf8(bytes.as_slice()) else {
         return Ok(None);
     };
-    match ruby_behind(front.as_slice(), text) {
+    match ruby_after(front.as_slice(), text) {
         Some(path) => Ok(Some(Name::from_str(alloc, path)?)),
         None => Ok(None),
     }
 }
 
-// What stands in the text behind this front, if it ends in `.rb`.
-fn ruby_behind<'a>(front: &[u8], text: &'a str) -> Option<&'a str>
+// What stands in the text after this front, if it ends in `.rb`.
+fn ruby_after<'a>(front: &[u8], text: &'a str) -> Option<&'a str>
     requires { slice_index front.now (length front.now - 1) ≡ 47 }
-    ensures { option_copied result ≡ ruby_behind front.now text.now }
+    ensures { option_copied result ≡ ruby_after front.now text.now }
 {
     let (before, after) = text.split_at_checked(front.len())?;
     if before.as_bytes() == front && after.as_bytes().ends_with(b".rb") {

@@ -3,7 +3,7 @@ use Rattle.std.proofs.Common.{◌≡◌, ℕ, ◌+◌, ◌<◌, ◌≤◌, Bool,
 use Rattle.std.proofs.lemmas.Bool.Decides.{nat_tests}
 use Rattle.std.specs.declared.option.Option.{Option}
 use Rattle.lsp_frame.specs.declared.head.Scan.{Scan}
-use Rattle.lsp_frame.specs.declared.head.Scan.TheVariants.{Line, Name, Value, LineEnd, Before, Digits, Behind, HeadEnd, Done}
+use Rattle.lsp_frame.specs.declared.head.Scan.TheVariants.{Line, Name, Value, LineEnd, Before, Digits, After, HeadEnd, Done}
 use Rattle.lsp_frame.specs.declared.head.Head.{Head}
 use Rattle.lsp_frame.specs.declared.head.Head.TheVariants.{Unended, Broken, Gives}
 use Rattle.lsp_frame.specs.declared.first.First.TheVariants.{More, Refused, Oversized, Frame}
@@ -50,7 +50,7 @@ head_at-size size (Value length) n s e = absurd (never_gives _ size n s e)
 head_at-size size (LineEnd length) n s e = absurd (never_gives _ size n s e)
 head_at-size size Before n s e = absurd (never_gives _ size n s e)
 head_at-size size (Digits count value) n s e = absurd (never_gives _ size n s e)
-head_at-size size (Behind value) n s e = absurd (never_gives _ size n s e)
+head_at-size size (After value) n s e = absurd (never_gives _ size n s e)
 head_at-size size (HeadEnd length) n s e = absurd (never_gives _ size n s e)
 head_at-size size (Done length) n s e = let same : size ≡ s = cc in omega arith
 
@@ -93,7 +93,7 @@ first_from-frame (Gives n s) available from to e =
     let there : s + n ≤ available = enough available (s + n) is.0 in
     (n, ap (λ k. Gives n k) is.1, omega (arith, is.1, is.2), omega (arith, there, is.2))
 
--- the body of a frame stands behind its head, and all of it is there
+-- the body of a frame stands after its head, and all of it is there
 pub first_of-frame : (xs : List ℕ) (from to : ℕ) → first_of xs ≡ Frame from to → (0 < from) × (from ≤ to) × (to ≤ length xs)
 first_of-frame xs from to e =
     let is = first_from-frame (head_of xs) (length xs) from to e in

@@ -11,7 +11,7 @@ use Rattle.lsp_frame.specs.declared.reading.Input.TheVariants.{Body, End}
 use Rattle.lsp_frame.specs.declared.reading.FrameEnd.{FrameEnd}
 use Rattle.lsp_frame.specs.declared.reading.FrameEnd.TheVariants.{Broken, TooLong, Fault, NoMemory}
 use Rattle.lsp_frame.specs.First.{first_of}
-use Rattle.lsp_frame.specs.Bodies.{behind, bodies_at, with_body, ends}
+use Rattle.lsp_frame.specs.Bodies.{place_after, bodies_at, with_body, ends}
 use Rattle.lsp_frame.specs.Bodies.Ending.{Torn, Malformed, PastLimit}
 use Rattle.lsp_frame.specs.Stream.{Stream, Gives, Breaks, Answers, IsNext, GivesBodies}
 use Rattle.lsp_frame.proofs.FirstLemmas.{first_of-append, first_of-frame}
@@ -36,8 +36,8 @@ given_body at all rest body new gives =
     let same : first_of (all ++ rest) ≡ Frame from to = first_of-append all rest decided ∙ first in
     let the_body : slice_range (all ++ rest) from to ≡ body = slice_range-append all rest from to stands.1 stands.2 ∙ sym gives.3 in
     let the_rest : drop to (all ++ rest) ≡ new.pending ++ rest = drop-append-le to all rest stands.2 ∙ ap (λ l. l ++ rest) (sym (ap (λ s. s.pending) gives.4)) in
-    let the_place : behind at to ≡ new.at = sym (ap (λ s. s.at) gives.4) in
-    bodies_at-frame at (all ++ rest) from to same ∙ ap (λ b. with_body b (bodies_at (behind at to) (drop to (all ++ rest)))) the_body ∙ ap (λ a. with_body body (bodies_at a (drop to (all ++ rest)))) the_place ∙ ap (λ l. with_body body (bodies_at new.at l)) the_rest
+    let the_place : place_after at to ≡ new.at = sym (ap (λ s. s.at) gives.4) in
+    bodies_at-frame at (all ++ rest) from to same ∙ ap (λ b. with_body b (bodies_at (place_after at to) (drop to (all ++ rest)))) the_body ∙ ap (λ a. with_body body (bodies_at a (drop to (all ++ rest)))) the_place ∙ ap (λ l. with_body body (bodies_at new.at l)) the_rest
 
 -- a break that was read is that of all bytes
 given_break : (at place : ℕ) (all rest : List ℕ) → Breaks all at place (Some rest)

@@ -51,23 +51,23 @@ same_parts (x ∷ c) [] a b long e = absurd (omega (arith, long))
 same_parts (x ∷ c) (y ∷ d) a b long e =
     let rest : c ++ a ≡ d ++ b = cc in let shorter : length c ≡ length d = omega (arith, long) in same_parts c d a b shorter rest
 
--- what stands behind frames in a list of frames is one
-behind_frames : (bodies others : List (List ℕ)) (front x : List ℕ) → IsFrames front bodies → AreFrames (front ++ x) others → (left : List (List ℕ)) × AreFrames x left
-behind_frames [] others front x frames all = (others, subst (λ l. AreFrames (l ++ x) others) frames all)
-behind_frames (body ∷ bodies) [] front x frames all =
+-- what stands after frames in a list of frames is one
+after_frames : (bodies others : List (List ℕ)) (front x : List ℕ) → IsFrames front bodies → AreFrames (front ++ x) others → (left : List (List ℕ)) × AreFrames x left
+after_frames [] others front x frames all = (others, subst (λ l. AreFrames (l ++ x) others) frames all)
+after_frames (body ∷ bodies) [] front x frames all =
     let head = frames.2.head in
     let some = head_not_empty head (length body) frames.2.is_head in
     let e : length (front ++ x) ≡ 0 = ap length all in
     let long : length front ≡ length (frames.0 ++ frames.1) = ap length frames.4 in
     absurd (omega (arith, some, e, long, length-append front x, length-append frames.0 frames.1, ap length frames.2.is, length-append head body))
-behind_frames (body ∷ bodies) (other ∷ others) front x frames all =
+after_frames (body ∷ bodies) (other ∷ others) front x frames all =
     let mine = frames.2 in
     let theirs = all.2 in
     let left : front ++ x ≡ mine.head ++ (body ++ (frames.1 ++ x)) = ap (λ l. l ++ x) (frames.4 ∙ ap (λ l. l ++ frames.1) mine.is) ∙ simp append_assoc in
     let right : front ++ x ≡ theirs.0 ++ (other ++ all.1) = all.4 ∙ ap (λ l. l ++ all.1) theirs.2 ∙ append_assoc theirs.0 other all.1 in
     let same = head_unique mine.head theirs.0 (body ++ (frames.1 ++ x)) (other ++ all.1) (length body) (length other) mine.is_head theirs.1 (sym left ∙ right) in
     let later : frames.1 ++ x ≡ all.1 = same_parts body other (frames.1 ++ x) all.1 same.1 same.2 in
-    behind_frames bodies others frames.1 x frames.3 (subst (λ l. AreFrames l others) (sym later) all.3)
+    after_frames bodies others frames.1 x frames.3 (subst (λ l. AreFrames l others) (sym later) all.3)
 
 -- ---- a break
 
@@ -145,9 +145,9 @@ least_break front rest bodies size frames breaks = (
     | inl limit ↦ inl limit
     | inr is ↦ inr (λ begins.
         let one = take_one size rest is.1 in
-        let behind : (front ++ take (size + 1) rest) ++ begins.0 ≡ front ++ ((take size rest ++ (one.0 ∷ [])) ++ begins.0) =
+        let later : (front ++ take (size + 1) rest) ++ begins.0 ≡ front ++ ((take size rest ++ (one.0 ∷ [])) ++ begins.0) =
         append_assoc front (take (size + 1) rest) begins.0 ∙ ap (λ l. front ++ (l ++ begins.0)) one.1 in
-        let left = behind_frames bodies begins.1 front ((take size rest ++ (one.0 ∷ [])) ++ begins.0) frames (subst (λ l. AreFrames l begins.1) behind begins.2) in
+        let left = after_frames bodies begins.1 front ((take size rest ++ (one.0 ∷ [])) ++ begins.0) frames (subst (λ l. AreFrames l begins.1) later begins.2) in
         no_frames (take size rest) one.0 begins.0 left.0 breaks.0 (λ h. is.2 (subst BeginsHead (sym one.1) h)) left.1)
   ],
 )

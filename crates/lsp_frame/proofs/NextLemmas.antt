@@ -11,7 +11,7 @@ use Rattle.lsp_frame.specs.declared.reading.Input.TheVariants.{Body, End}
 use Rattle.lsp_frame.specs.declared.reading.FrameEnd.{FrameEnd}
 use Rattle.lsp_frame.specs.declared.reading.FrameEnd.TheVariants.{Broken, TooLong, Fault, NoMemory}
 use Rattle.lsp_frame.specs.First.{first_of}
-use Rattle.lsp_frame.specs.Bodies.{behind}
+use Rattle.lsp_frame.specs.Bodies.{place_after}
 use Rattle.lsp_frame.specs.Stream.{Stream, stream, Reads, Answers, IsTaken, Fills}
 
 -- a refusal with an answer that is known
@@ -27,11 +27,11 @@ left_so all at at0 new end end0 is same ended =
 
 -- the pending bytes break
 pub broken_next : (all : List ℕ) (at at0 size : ℕ) (new : Stream) (left : Option (List ℕ)) (before now : ℕ) (result : Result Input FrameEnd)
-    (end : FrameEnd) → first_of all ≡ Refused size → end ≡ Broken (behind at size) → at ≡ at0 → result ≡ Err end
+    (end : FrameEnd) → first_of all ≡ Refused size → end ≡ Broken (place_after at size) → at ≡ at0 → result ≡ Err end
     → new ≡ stream all at (Some end) → now ≡ before → Answers all at0 new left before now result
 broken_next all at at0 size new left before now result end first ended same is after unfailed =
-    let named : end ≡ Broken (behind at0 size) = ended ∙ ap (λ a. Broken (behind a size)) same in
-    refused_so all at0 new left before now result (Broken (behind at0 size)) (is ∙ ap Err named)
+    let named : end ≡ Broken (place_after at0 size) = ended ∙ ap (λ a. Broken (place_after a size)) same in
+    refused_so all at0 new left before now result (Broken (place_after at0 size)) (is ∙ ap Err named)
     (inl (size, first, refl), left_so all at at0 new end _ after same named, unfailed)
 
 -- a head passes the limit
@@ -44,11 +44,11 @@ long_next all at at0 size new left before now result first same is after unfaile
 
 -- the pending bytes end inside a frame
 pub torn_next : (all : List ℕ) (at at0 : ℕ) (new : Stream) (left : Option (List ℕ)) (before now : ℕ) (result : Result Input FrameEnd)
-    (end : FrameEnd) → first_of all ≡ More → 0 < length all → IsAtEnd left → end ≡ Broken (behind at (length all)) → at ≡ at0
+    (end : FrameEnd) → first_of all ≡ More → 0 < length all → IsAtEnd left → end ≡ Broken (place_after at (length all)) → at ≡ at0
     → result ≡ Err end → new ≡ stream all at (Some end) → now ≡ before → Answers all at0 new left before now result
 torn_next all at at0 new left before now result end first some over ended same is after unfailed =
-    let named : end ≡ Broken (behind at0 (length all)) = ended ∙ ap (λ a. Broken (behind a (length all))) same in
-    refused_so all at0 new left before now result (Broken (behind at0 (length all))) (is ∙ ap Err named)
+    let named : end ≡ Broken (place_after at0 (length all)) = ended ∙ ap (λ a. Broken (place_after a (length all))) same in
+    refused_so all at0 new left before now result (Broken (place_after at0 (length all))) (is ∙ ap Err named)
     (inr (first, some, over, refl), left_so all at at0 new end _ after same named, unfailed)
 
 -- a frame is there
@@ -91,7 +91,7 @@ none_filled old mid left left' before now n fills none =
 pub closed_next : (p0 : List ℕ) (at0 : ℕ) (old mid new : Stream) (left0 left left' : Option (List ℕ)) (before0 before now n : ℕ)
     (result : Result Input FrameEnd) (end : FrameEnd) → Reads left0 left p0 old.pending → first_of old.pending ≡ More → old.at ≡ at0
     → before ≡ before0 → Fills old mid left left' before now (Ok n) → n ≡ 0 → 0 < length mid.pending
-    → end ≡ Broken (behind mid.at (length mid.pending)) → result ≡ Err end → new ≡ stream mid.pending mid.at (Some end)
+    → end ≡ Broken (place_after mid.at (length mid.pending)) → result ≡ Err end → new ≡ stream mid.pending mid.at (Some end)
     → (all : List ℕ) × Reads left0 left' p0 all × Answers all at0 new left' before0 now result
 closed_next p0 at0 old mid new left0 left left' before0 before now n result end reads first same counts fills none some ended is after =
     let kept = none_filled old mid left left' before now n fills none in

@@ -3,10 +3,10 @@ use Rattle.std.proofs.Common.{◌≡◌, ℕ, ◌<◌, ◌≤◌, true, List, []
 use Rattle.std.specs.Char.{is_ascii_digit}
 use Rattle.std.specs.declared.option.Option.{Option}
 use Rattle.lsp_frame.specs.declared.head.Scan.{Scan}
-use Rattle.lsp_frame.specs.declared.head.Scan.TheVariants.{Line, Name, Value, LineEnd, Before, Digits, Behind, HeadEnd, Done}
+use Rattle.lsp_frame.specs.declared.head.Scan.TheVariants.{Line, Name, Value, LineEnd, Before, Digits, After, HeadEnd, Done}
 use Rattle.lsp_frame.specs.Bytes.{is_name_byte, is_value_byte, is_blank}
 use Rattle.lsp_frame.specs.Head.{name_matched}
-use Rattle.lsp_frame.specs.Grammar.{Each, IsName, IsLengthName, IsOtherLine, number_behind, IsLengthLine, OtherLines, LengthLines, IsHead}
+use Rattle.lsp_frame.specs.Grammar.{Each, IsName, IsLengthName, IsOtherLine, number_after, IsLengthLine, OtherLines, LengthLines, IsHead}
 use Rattle.lsp_frame.proofs.ScanLemmas.{Each-push, matched, matched-push, Lines, Lines-push, LengthLines-push}
 use Rattle.lsp_frame.proofs.NameLemmas.{matched-name, name-matched}
 
@@ -47,7 +47,7 @@ pub record InLength (digits back bytes : List ℕ) : Type 0 where
 pub record IsNumber (digits : List ℕ) (n : ℕ) : Type 0 where
   pub some : 0 < length digits
   pub few : length digits ≤ 19
-  pub number : n ≡ number_behind 0 digits
+  pub number : n ≡ number_after 0 digits
 
 -- what the bytes are that led to a state
 abbrev pub Reached : Scan → List ℕ → Type 0
@@ -57,7 +57,7 @@ Reached (Value length) bytes = InValue length bytes
 Reached (LineEnd length) bytes = (line : List ℕ) × Lines length (line ++ (13 ∷ 10 ∷ [])) × (bytes ≡ line ++ (13 ∷ []))
 Reached Before bytes = InLength [] [] bytes
 Reached (Digits count value) bytes = (digits : List ℕ) × InLength digits [] bytes × IsNumber digits value × (length digits ≡ count)
-Reached (Behind value) bytes = (digits : List ℕ) × (back : List ℕ) × InLength digits back bytes × IsNumber digits value
+Reached (After value) bytes = (digits : List ℕ) × (back : List ℕ) × InLength digits back bytes × IsNumber digits value
 Reached (HeadEnd n) bytes = (lines : List ℕ) × LengthLines lines n × (bytes ≡ lines ++ (13 ∷ []))
 Reached (Done n) bytes = IsHead bytes n
 
@@ -85,7 +85,7 @@ goes_on_name so_far length_so_far bytes b at passes =
       is = ap (λ l. l ++ (b ∷ [])) at.is ∙ append_assoc at.before at.name (b ∷ []);
     }
 
--- behind a `:`
+-- after a `:`
 pub begins_value : (so_far length : Option ℕ) (bytes : List ℕ) (b : ℕ) → InName so_far length bytes → b ≡ 58 → (so_far ≡ Some 14 → ⊥) → InValue length (bytes ++ (b ∷ []))
 begins_value so_far length bytes b at colon other =
     record {

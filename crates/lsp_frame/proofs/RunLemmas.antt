@@ -5,15 +5,15 @@ use Rattle.std.specs.Char.{is_ascii_digit, to_ascii_lowercase}
 use Rattle.std.proofs.lemmas.Bool.Decides.{nat_tests}
 use Rattle.std.specs.declared.option.Option.{Option}
 use Rattle.lsp_frame.specs.declared.head.Scan.{Scan}
-use Rattle.lsp_frame.specs.declared.head.Scan.TheVariants.{Line, Name, Value, LineEnd, Before, Digits, Behind, HeadEnd, Done}
+use Rattle.lsp_frame.specs.declared.head.Scan.TheVariants.{Line, Name, Value, LineEnd, Before, Digits, After, HeadEnd, Done}
 use Rattle.lsp_frame.specs.Bytes.{is_name_byte, is_value_byte, is_blank, content_length}
-use Rattle.lsp_frame.specs.Head.{name_matched, end_step, length_step, colon_step, behind_step, blank_step, step_of}
-use Rattle.lsp_frame.specs.Grammar.{Each, IsName, IsOtherLine, number_behind, IsLengthLine, EachOther, OtherLines, LengthLines, IsHead}
+use Rattle.lsp_frame.specs.Head.{name_matched, end_step, length_step, colon_step, after_step, blank_step, step_of}
+use Rattle.lsp_frame.specs.Grammar.{Each, IsName, IsOtherLine, number_after, IsLengthLine, EachOther, OtherLines, LengthLines, IsHead}
 use Rattle.lsp_frame.proofs.ScanLemmas.{matched}
 use Rattle.lsp_frame.proofs.NameLemmas.{matched-name, name-matched}
 use Rattle.lsp_frame.proofs.ReachedLemmas.{Reached}
 
--- where a scan stands behind some bytes, or `None` where no head begins so
+-- where a scan stands after some bytes, or `None` where no head begins so
 abbrev pub run_on : Option Scan → (Scan → Option Scan) → Option Scan
 run_on None later = None
 run_on (Some scan) later = later scan
@@ -75,11 +75,11 @@ in_value length (b ∷ rest) each =
 other_line : (length : Option ℕ) (line : List ℕ) → IsOtherLine line → runs (Line length) line ≡ Some (Line length)
 other_line length line is =
     let so_far = matched (Some 0) is.name in
-    let behind_value : runs (Value length) (is.value ++ (13 ∷ 10 ∷ [])) ≡ Some (Line length) =
+    let after_value : runs (Value length) (is.value ++ (13 ∷ 10 ∷ [])) ≡ Some (Line length) =
     then_run (Value length) (Value length) _ is.value (13 ∷ 10 ∷ []) (in_value length is.value is.bytes) refl in
-    let behind_name : runs (Name so_far length) (58 ∷ (is.value ++ (13 ∷ 10 ∷ []))) ≡ Some (Line length) =
-    one_step (Name so_far length) (Value length) _ 58 _ (other_colon so_far length (λ e. is.other (matched-name is.name e))) behind_value in
-    ap (runs (Line length)) is.is ∙ then_run (Line length) (Name so_far length) _ is.name _ (whole_name length is.name is.named) behind_name
+    let after_name : runs (Name so_far length) (58 ∷ (is.value ++ (13 ∷ 10 ∷ []))) ≡ Some (Line length) =
+    one_step (Name so_far length) (Value length) _ 58 _ (other_colon so_far length (λ e. is.other (matched-name is.name e))) after_value in
+    ap (runs (Line length)) is.is ∙ then_run (Line length) (Name so_far length) _ is.name _ (whole_name length is.name is.named) after_name
 
 each_other : (length : Option ℕ) (lines : List (List ℕ)) → EachOther lines → runs (Line length) (concat lines) ≡ Some (Line length)
 each_other length [] each = refl
@@ -112,47 +112,47 @@ one_digit count value b room is =
     if_true (is_ascii_digit b) _ (blank_step count value b) is ∙ if_true (nat_lt count 19) (Some (Digits (count + 1) (value * 10 + (b - 48)))) None (is_less count 19 room)
 
 in_digits : (count value : ℕ) (digits : List ℕ) → Each is_ascii_digit digits → count + length digits ≤ 19
-    → runs (Digits count value) digits ≡ Some (Digits (count + length digits) (number_behind value digits))
+    → runs (Digits count value) digits ≡ Some (Digits (count + length digits) (number_after value digits))
 in_digits count value [] each few = let z : count + 0 ≡ count = omega arith in ap (λ k. Some (Digits k value)) (sym z)
 in_digits count value (b ∷ rest) each few =
     let room : count < 19 = omega arith in
     let fewer : count + 1 + length rest ≤ 19 = omega arith in
     let total : count + 1 + length rest ≡ count + suc (length rest) = omega arith in
-    one_step (Digits count value) (Digits (count + 1) (value * 10 + (b - 48))) _ b rest (one_digit count value b room each.0) (in_digits (count + 1) (value * 10 + (b - 48)) rest each.1 fewer ∙ ap (λ k. Some (Digits k (number_behind (value * 10 + (b - 48)) rest))) total)
+    one_step (Digits count value) (Digits (count + 1) (value * 10 + (b - 48))) _ b rest (one_digit count value b room each.0) (in_digits (count + 1) (value * 10 + (b - 48)) rest each.1 fewer ∙ ap (λ k. Some (Digits k (number_after (value * 10 + (b - 48)) rest))) total)
 
-whole_digits : (digits : List ℕ) → Each is_ascii_digit digits → 0 < length digits → length digits ≤ 19 → runs Before digits ≡ Some (Digits (length digits) (number_behind 0 digits))
+whole_digits : (digits : List ℕ) → Each is_ascii_digit digits → 0 < length digits → length digits ≤ 19 → runs Before digits ≡ Some (Digits (length digits) (number_after 0 digits))
 whole_digits [] each some few = absurd (omega arith)
 whole_digits (b ∷ rest) each some few =
     let fewer : 1 + length rest ≤ 19 = omega arith in
     let total : 1 + length rest ≡ suc (length rest) = omega arith in
-    one_step Before (Digits 1 (0 * 10 + (b - 48))) _ b rest (if_true (is_ascii_digit b) _ (blank_step 0 0 b) each.0) (in_digits 1 (0 * 10 + (b - 48)) rest each.1 fewer ∙ ap (λ k. Some (Digits k (number_behind (0 * 10 + (b - 48)) rest))) total)
+    one_step Before (Digits 1 (0 * 10 + (b - 48))) _ b rest (if_true (is_ascii_digit b) _ (blank_step 0 0 b) each.0) (in_digits 1 (0 * 10 + (b - 48)) rest each.1 fewer ∙ ap (λ k. Some (Digits k (number_after (0 * 10 + (b - 48)) rest))) total)
 
-in_back : (value : ℕ) (back : List ℕ) → Each is_blank back → runs (Behind value) (back ++ (13 ∷ 10 ∷ [])) ≡ Some (Line (Some value))
+in_back : (value : ℕ) (back : List ℕ) → Each is_blank back → runs (After value) (back ++ (13 ∷ 10 ∷ [])) ≡ Some (Line (Some value))
 in_back value [] each = refl
 in_back value (b ∷ rest) each =
-    one_step (Behind value) (Behind value) _ b _ (if_true (is_blank b) (Some (Behind value)) (if b == 13 then Some (LineEnd (Some value)) else None) each.0) (in_back value rest each.1)
+    one_step (After value) (After value) _ b _ (if_true (is_blank b) (Some (After value)) (if b == 13 then Some (LineEnd (Some value)) else None) each.0) (in_back value rest each.1)
 
 pub whole_back : (count value : ℕ) (back : List ℕ) → 0 < count → Each is_blank back → runs (Digits count value) (back ++ (13 ∷ 10 ∷ [])) ≡ Some (Line (Some value))
 whole_back count value [] some each =
-    one_step (Digits count value) (LineEnd (Some value)) _ 13 (10 ∷ []) (if_false (count == 0) None (behind_step value 13) (not_zero count some)) refl
+    one_step (Digits count value) (LineEnd (Some value)) _ 13 (10 ∷ []) (if_false (count == 0) None (after_step value 13) (not_zero count some)) refl
 whole_back count value (b ∷ rest) some each =
-    let step : step_of (Digits count value) b ≡ Some (Behind value) =
-    if_false (is_ascii_digit b) _ (blank_step count value b) (not_digit b each.0) ∙ if_false (count == 0) _ (behind_step value b) (not_zero count some) ∙ if_true (is_blank b) (Some (Behind value)) (if b == 13 then Some (LineEnd (Some value)) else None) each.0 in
-    one_step (Digits count value) (Behind value) _ b _ step (in_back value rest each.1)
+    let step : step_of (Digits count value) b ≡ Some (After value) =
+    if_false (is_ascii_digit b) _ (blank_step count value b) (not_digit b each.0) ∙ if_false (count == 0) _ (after_step value b) (not_zero count some) ∙ if_true (is_blank b) (Some (After value)) (if b == 13 then Some (LineEnd (Some value)) else None) each.0 in
+    one_step (Digits count value) (After value) _ b _ step (in_back value rest each.1)
 
 length_line : (line : List ℕ) (n : ℕ) → IsLengthLine line n → runs (Line None) line ≡ Some (Line (Some n))
 length_line line n is =
-    let value = number_behind 0 is.digits in
-    let behind_digits : runs (Digits (length is.digits) value) (is.back ++ (13 ∷ 10 ∷ [])) ≡ Some (Line (Some n)) =
+    let value = number_after 0 is.digits in
+    let after_digits : runs (Digits (length is.digits) value) (is.back ++ (13 ∷ 10 ∷ [])) ≡ Some (Line (Some n)) =
     whole_back (length is.digits) value is.back is.some is.blank_back ∙ ap (λ v. Some (Line (Some v))) (sym is.number) in
-    let behind_front : runs Before (is.digits ++ (is.back ++ (13 ∷ 10 ∷ []))) ≡ Some (Line (Some n)) =
-    then_run Before (Digits (length is.digits) value) _ is.digits _ (whole_digits is.digits is.decimal is.some is.few) behind_digits in
-    let behind_colon : runs Before (is.front ++ (is.digits ++ (is.back ++ (13 ∷ 10 ∷ [])))) ≡ Some (Line (Some n)) =
-    then_run Before Before _ is.front _ (in_front is.front is.blank_front) behind_front in
-    let behind_name : runs (Name (Some 14) None) (58 ∷ (is.front ++ (is.digits ++ (is.back ++ (13 ∷ 10 ∷ []))))) ≡ Some (Line (Some n)) =
-    one_step (Name (Some 14) None) Before (Some (Line (Some n))) 58 (is.front ++ (is.digits ++ (is.back ++ (13 ∷ 10 ∷ [])))) refl behind_colon in
+    let after_front : runs Before (is.digits ++ (is.back ++ (13 ∷ 10 ∷ []))) ≡ Some (Line (Some n)) =
+    then_run Before (Digits (length is.digits) value) _ is.digits _ (whole_digits is.digits is.decimal is.some is.few) after_digits in
+    let after_colon : runs Before (is.front ++ (is.digits ++ (is.back ++ (13 ∷ 10 ∷ [])))) ≡ Some (Line (Some n)) =
+    then_run Before Before _ is.front _ (in_front is.front is.blank_front) after_front in
+    let after_name : runs (Name (Some 14) None) (58 ∷ (is.front ++ (is.digits ++ (is.back ++ (13 ∷ 10 ∷ []))))) ≡ Some (Line (Some n)) =
+    one_step (Name (Some 14) None) Before (Some (Line (Some n))) 58 (is.front ++ (is.digits ++ (is.back ++ (13 ∷ 10 ∷ [])))) refl after_colon in
     let named : runs (Line None) is.name ≡ Some (Name (Some 14) None) = whole_name None is.name is.named ∙ ap (λ m. Some (Name m None)) (name-matched is.name is.the_length) in
-    ap (runs (Line None)) is.is ∙ then_run (Line None) (Name (Some 14) None) _ is.name _ named behind_name
+    ap (runs (Line None)) is.is ∙ then_run (Line None) (Name (Some 14) None) _ is.name _ named after_name
 
 length_lines : (bytes : List ℕ) (n : ℕ) → LengthLines bytes n → runs (Line None) bytes ≡ Some (Line (Some n))
 length_lines bytes n is =
@@ -171,8 +171,8 @@ from_line : (length : Option ℕ) → Ends (Line length)
 from_line None = (codes "Content-Length:0\r\n\r\n", 0, refl)
 from_line (Some n) = (13 ∷ 10 ∷ [], n, refl)
 
-ends_behind : (s t : Scan) (front : List ℕ) → runs s front ≡ Some t → Ends t → Ends s
-ends_behind s t front e later = (front ++ later.0, later.1, then_run s t _ front later.0 e later.2)
+ends_after : (s t : Scan) (front : List ℕ) → runs s front ≡ Some t → Ends t → Ends s
+ends_after s t front e later = (front ++ later.0, later.1, then_run s t _ front later.0 e later.2)
 
 not_so : (b : Bool) → not b ≡ true → b ≡ false
 not_so true e = absurd (let wrong : false ≡ true = e in cc)
@@ -199,17 +199,17 @@ from_name so_far length =
     let other : step_of (Name so_far length) 48 ≡ Some (Name None length) = ap (λ m. Some (Name m length)) (zero_differs so_far) in
     let line : runs (Name so_far length) (48 ∷ 58 ∷ 13 ∷ 10 ∷ []) ≡ Some (Line length) =
     one_step (Name so_far length) (Name None length) _ 48 (58 ∷ 13 ∷ 10 ∷ []) other refl in
-    ends_behind (Name so_far length) (Line length) (48 ∷ 58 ∷ 13 ∷ 10 ∷ []) line (from_line length)
+    ends_after (Name so_far length) (Line length) (48 ∷ 58 ∷ 13 ∷ 10 ∷ []) line (from_line length)
 
 pub live : (s : Scan) (bytes : List ℕ) → Reached s bytes → Ends s
 live (Line length) bytes at = from_line length
 live (Name so_far length) bytes at = from_name so_far length
-live (Value length) bytes at = ends_behind (Value length) (Line length) (13 ∷ 10 ∷ []) refl (from_line length)
-live (LineEnd length) bytes at = ends_behind (LineEnd length) (Line length) (10 ∷ []) refl (from_line length)
-live Before bytes at = ends_behind Before (Line (Some 0)) (48 ∷ 13 ∷ 10 ∷ []) refl (from_line (Some 0))
+live (Value length) bytes at = ends_after (Value length) (Line length) (13 ∷ 10 ∷ []) refl (from_line length)
+live (LineEnd length) bytes at = ends_after (LineEnd length) (Line length) (10 ∷ []) refl (from_line length)
+live Before bytes at = ends_after Before (Line (Some 0)) (48 ∷ 13 ∷ 10 ∷ []) refl (from_line (Some 0))
 live (Digits count value) bytes at =
     let some : 0 < count = subst (λ k. 0 < k) at.3 at.2.some in
-    ends_behind (Digits count value) (Line (Some value)) (13 ∷ 10 ∷ []) (whole_back count value [] some tt) (from_line (Some value))
-live (Behind value) bytes at = ends_behind (Behind value) (Line (Some value)) (13 ∷ 10 ∷ []) refl (from_line (Some value))
+    ends_after (Digits count value) (Line (Some value)) (13 ∷ 10 ∷ []) (whole_back count value [] some tt) (from_line (Some value))
+live (After value) bytes at = ends_after (After value) (Line (Some value)) (13 ∷ 10 ∷ []) refl (from_line (Some value))
 live (HeadEnd n) bytes at = (10 ∷ [], n, refl)
 live (Done n) bytes at = ([], n, refl)

@@ -4,7 +4,7 @@ use Rattle.std.proofs.Math.Seq.{take-append_seam}
 use Rattle.std.proofs.lemmas.Bool.Decides.{nat_tests}
 use Rattle.std.specs.declared.option.Option.{Option}
 use Rattle.lsp_frame.specs.declared.head.Scan.{Scan}
-use Rattle.lsp_frame.specs.declared.head.Scan.TheVariants.{Line, Name, Value, LineEnd, Before, Digits, Behind, HeadEnd, Done}
+use Rattle.lsp_frame.specs.declared.head.Scan.TheVariants.{Line, Name, Value, LineEnd, Before, Digits, After, HeadEnd, Done}
 use Rattle.lsp_frame.specs.declared.head.Head.{Head}
 use Rattle.lsp_frame.specs.declared.head.Head.TheVariants.{Unended, Broken, Gives}
 use Rattle.lsp_frame.specs.Head.{settled_or, go_on, step_of, unended_at, head_at, head_from, head_of}
@@ -31,7 +31,7 @@ next_reads s bytes rest b u None at is e later = absurd (let wrong : None ≡ So
 next_reads s bytes rest b u (Some t) at is e later =
     subst (λ l. Reached u l) (append_assoc bytes (b ∷ []) rest) (later t (bytes ++ (b ∷ [])) (At-more s t bytes b is at) e)
 
--- bytes behind which a scan goes on to its end are read by the grammar
+-- bytes after which a scan goes on to its end are read by the grammar
 reads_on : (s : Scan) (bytes rest : List ℕ) (u : Scan) → At s bytes → runs s rest ≡ Some u → Reached u (bytes ++ rest)
 reads_on s bytes [] u at e = let is : s ≡ u = cc in subst (λ l. Reached u l) (sym (append-nil bytes)) (subst (λ t. Reached t bytes) is at.reached)
 reads_on s bytes (b ∷ rest) u at e = next_reads s bytes rest b u (step_of s b) at refl e (λ t front at_t h. reads_on t front rest u at_t h)
@@ -72,7 +72,7 @@ done_cases size (Value length) = inr (refl, λ n e. cc)
 done_cases size (LineEnd length) = inr (refl, λ n e. cc)
 done_cases size Before = inr (refl, λ n e. cc)
 done_cases size (Digits count value) = inr (refl, λ n e. cc)
-done_cases size (Behind value) = inr (refl, λ n e. cc)
+done_cases size (After value) = inr (refl, λ n e. cc)
 done_cases size (HeadEnd n) = inr (refl, λ n e. cc)
 done_cases size (Done n) = inl (n, refl)
 

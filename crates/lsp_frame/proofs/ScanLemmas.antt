@@ -5,7 +5,7 @@ use Rattle.std.proofs.lemmas.Bool.Decides.{nat_tests}
 use Rattle.std.proofs.lemmas.List.Folds.{concat-append}
 use Rattle.std.specs.declared.option.Option.{Option}
 use Rattle.lsp_frame.specs.Head.{name_matched}
-use Rattle.lsp_frame.specs.Grammar.{Each, IsOtherLine, number_behind, IsLengthLine, EachOther, OtherLines, LengthLines}
+use Rattle.lsp_frame.specs.Grammar.{Each, IsOtherLine, number_after, IsLengthLine, EachOther, OtherLines, LengthLines}
 
 -- ---- tests
 
@@ -22,11 +22,11 @@ pub Each-push : (test : ℕ → Bool) (xs : List ℕ) (b : ℕ) → Each test xs
 Each-push test [] b each passes = (passes, tt)
 Each-push test (x ∷ xs) b each passes = (each.0, Each-push test xs b each.1 passes)
 
-pub number_behind-push : (value : ℕ) (xs : List ℕ) (b : ℕ) → number_behind value (xs ++ (b ∷ [])) ≡ number_behind value xs * 10 + (b - 48)
-number_behind-push value [] b = refl
-number_behind-push value (x ∷ xs) b = number_behind-push (value * 10 + (x - 48)) xs b
+pub number_after-push : (value : ℕ) (xs : List ℕ) (b : ℕ) → number_after value (xs ++ (b ∷ [])) ≡ number_after value xs * 10 + (b - 48)
+number_after-push value [] b = refl
+number_after-push value (x ∷ xs) b = number_after-push (value * 10 + (x - 48)) xs b
 
--- how many bytes of a name match, behind others
+-- how many bytes of a name match, after others
 abbrev pub matched : Option ℕ → List ℕ → Option ℕ
 matched so_far [] = so_far
 matched so_far (b ∷ rest) = matched (name_matched so_far b) rest

@@ -4,11 +4,11 @@ use Rattle.std.specs.Char.{is_ascii_digit}
 use Rattle.std.proofs.lemmas.Bool.Decides.{nat_tests}
 use Rattle.std.specs.declared.option.Option.{Option}
 use Rattle.lsp_frame.specs.declared.head.Scan.{Scan}
-use Rattle.lsp_frame.specs.declared.head.Scan.TheVariants.{Line, Name, Value, LineEnd, Before, Digits, Behind, HeadEnd, Done}
+use Rattle.lsp_frame.specs.declared.head.Scan.TheVariants.{Line, Name, Value, LineEnd, Before, Digits, After, HeadEnd, Done}
 use Rattle.lsp_frame.specs.Bytes.{is_name_byte, is_value_byte, is_blank}
-use Rattle.lsp_frame.specs.Head.{name_matched, end_step, line_step, length_step, colon_step, name_step, value_step, behind_step, blank_step, digits_step, step_of}
-use Rattle.lsp_frame.specs.Grammar.{number_behind}
-use Rattle.lsp_frame.proofs.ScanLemmas.{if_some, eq_of, number_behind-push, Lines}
+use Rattle.lsp_frame.specs.Head.{name_matched, end_step, line_step, length_step, colon_step, name_step, value_step, after_step, blank_step, digits_step, step_of}
+use Rattle.lsp_frame.specs.Grammar.{number_after}
+use Rattle.lsp_frame.proofs.ScanLemmas.{if_some, eq_of, number_after-push, Lines}
 use Rattle.lsp_frame.proofs.ReachedLemmas.{InName, InValue, InLength, IsNumber, Reached, reached_so, none_is, begins_name, goes_on_name, begins_value, begins_length, goes_on_value, ends_value, goes_on_blanks, goes_on_digits, goes_on_back, ends_length}
 
 -- the byte is the one that is asked for
@@ -66,10 +66,10 @@ value_sound length t bytes b e at =
       ]
     ]
 
-behind_sound : (digits back : List ℕ) (value : ℕ) (t : Scan) (bytes : List ℕ) (b : ℕ) → behind_step value b ≡ Some t → InLength digits back bytes → IsNumber digits value → Reached t (bytes ++ (b ∷ []))
-behind_sound digits back value t bytes b e at number =
-    elim (if_some (is_blank b) (Some (Behind value)) (if b == 13 then Some (LineEnd (Some value)) else None) t e) [
-      | inl p ↦ reached_so (Behind value) t (bytes ++ (b ∷ [])) p.1 (digits, back ++ (b ∷ []), goes_on_back digits back bytes b at p.0, number)
+after_sound : (digits back : List ℕ) (value : ℕ) (t : Scan) (bytes : List ℕ) (b : ℕ) → after_step value b ≡ Some t → InLength digits back bytes → IsNumber digits value → Reached t (bytes ++ (b ∷ []))
+after_sound digits back value t bytes b e at number =
+    elim (if_some (is_blank b) (Some (After value)) (if b == 13 then Some (LineEnd (Some value)) else None) t e) [
+      | inl p ↦ reached_so (After value) t (bytes ++ (b ∷ [])) p.1 (digits, back ++ (b ∷ []), goes_on_back digits back bytes b at p.0, number)
       | inr p ↦ elim (if_some (b == 13) (Some (LineEnd (Some value))) None t p.1) [
         | inl q ↦ reached_so (LineEnd (Some value)) t (bytes ++ (b ∷ [])) q.1 (bytes, ends_length digits back bytes value at number, with_byte bytes b 13 (eq_of b 13 q.0))
         | inr q ↦ none_is t q.1
@@ -81,13 +81,13 @@ below a b e = grind (arith, nat_tests)
 
 -- one more digit
 more_digits : (digits bytes : List ℕ) (count value : ℕ) (t : Scan) (b : ℕ) → (if nat_lt count 19 then Some (Digits (count + 1) (value * 10 + (b - 48))) else None) ≡ Some t
-    → InLength digits [] bytes → length digits ≡ count → value ≡ number_behind 0 digits → is_ascii_digit b ≡ true → Reached t (bytes ++ (b ∷ []))
+    → InLength digits [] bytes → length digits ≡ count → value ≡ number_after 0 digits → is_ascii_digit b ≡ true → Reached t (bytes ++ (b ∷ []))
 more_digits digits bytes count value t b e at many number passes =
     elim (if_some (nat_lt count 19) (Some (Digits (count + 1) (value * 10 + (b - 48)))) None t e) [
       | inl p ↦
           let room : count < 19 = below count 19 p.0 in
           let longer : length (digits ++ (b ∷ [])) ≡ count + 1 = length-append digits (b ∷ []) ∙ ap (λ k. k + 1) many in
-          let is : value * 10 + (b - 48) ≡ number_behind 0 (digits ++ (b ∷ [])) = ap (λ v. v * 10 + (b - 48)) number ∙ sym (number_behind-push 0 digits b) in
+          let is : value * 10 + (b - 48) ≡ number_after 0 (digits ++ (b ∷ [])) = ap (λ v. v * 10 + (b - 48)) number ∙ sym (number_after-push 0 digits b) in
           let there : IsNumber (digits ++ (b ∷ [])) (value * 10 + (b - 48)) = record { some = omega (arith, longer); few = omega (arith, longer); number = is } in
           reached_so (Digits (count + 1) (value * 10 + (b - 48))) t (bytes ++ (b ∷ [])) p.1 (digits ++ (b ∷ []), goes_on_digits digits bytes b at passes, there, longer)
       | inr p ↦ none_is t p.1
@@ -117,8 +117,8 @@ digits_sound count value t bytes b e at =
       | inl p ↦ more_digits at.0 bytes count value t b p.1 at.1 at.3 at.2.number p.0
       | inr p ↦
           let some : 0 < count = subst (λ k. 0 < k) at.3 at.2.some in
-          let behind : behind_step value b ≡ Some t = sym (if_false (count == 0) (if is_blank b then Some Before else None) (behind_step value b) (not_zero count some)) ∙ p.1 in
-          behind_sound at.0 [] value t bytes b behind at.1 at.2
+          let stepped : after_step value b ≡ Some t = sym (if_false (count == 0) (if is_blank b then Some Before else None) (after_step value b) (not_zero count some)) ∙ p.1 in
+          after_sound at.0 [] value t bytes b stepped at.1 at.2
     ]
 
 pub step_sound : (s t : Scan) (bytes : List ℕ) (b : ℕ) → step_of s b ≡ Some t → Reached s bytes → Reached t (bytes ++ (b ∷ []))
@@ -134,7 +134,7 @@ step_sound (LineEnd length) t bytes b e at =
     ]
 step_sound Before t bytes b e at = before_sound t bytes b e at
 step_sound (Digits count value) t bytes b e at = digits_sound count value t bytes b e at
-step_sound (Behind value) t bytes b e at = behind_sound at.0 at.1 value t bytes b e at.2 at.3
+step_sound (After value) t bytes b e at = after_sound at.0 at.1 value t bytes b e at.2 at.3
 step_sound (HeadEnd n) t bytes b e at =
     elim (if_some (b == 10) (Some (Done n)) None t e) [
       | inl p ↦

@@ -10,7 +10,7 @@ use Rattle.lsp_frame.specs.declared.first.First.{First}
 use Rattle.lsp_frame.specs.declared.first.First.TheVariants.{More, Refused, Oversized, Frame}
 use Rattle.lsp_frame.specs.Head.{head_of}
 use Rattle.lsp_frame.specs.First.{first_from, first_of}
-use Rattle.lsp_frame.specs.Bodies.{Bodies, Ending, behind, bodies_at, with_body, ends}
+use Rattle.lsp_frame.specs.Bodies.{Bodies, Ending, place_after, bodies_at, with_body, ends}
 use Rattle.lsp_frame.specs.Bodies.Ending.{Closed, Torn, Malformed, PastLimit}
 use Rattle.lsp_frame.specs.Grammar.{IsHead, IsUnended, BreaksAt, HeadSays, IsFrame, IsBodyShort, IsPastLimit, EndSays, BodiesSay}
 use Rattle.lsp_frame.proofs.BodiesLemmas.{bodies_at-frame, bodies_at-refused, bodies_at-long, bodies_at-torn}
@@ -37,7 +37,7 @@ head_not_empty n zero bytes is =
     let long : 0 ≡ length is.0 + 2 = ap length is.2 ∙ length-append is.0 (13 ∷ 10 ∷ []) in absurd (omega (arith, long))
 head_not_empty n (suc size) bytes is = omega arith
 
--- behind a head
+-- after a head
 gives_first : (long short : Bool) (n size : ℕ) (bytes : List ℕ) → nat_lt 16777216 n ≡ long → nat_lt (length bytes) (size + n) ≡ short
     → HeadSays bytes (Gives n size) → FirstSays bytes (if long then Oversized n else (if short then More else Frame size (size + n)))
 gives_first true short n size bytes is_long is_short says =
@@ -89,26 +89,26 @@ first_says bytes = first_from_says (head_of bytes) bytes (head_says bytes)
 
 -- ---- places
 
-behind_twice : (at n m : ℕ) → behind (behind at n) m ≡ behind at (n + m)
-behind_twice at n m = omega arith
+after_twice : (at n m : ℕ) → place_after (place_after at n) m ≡ place_after at (n + m)
+after_twice at n m = omega arith
 
-behind_none : (at m : ℕ) → behind at m ≡ behind (behind at 0) m
-behind_none at m = omega arith
+after_none : (at m : ℕ) → place_after at m ≡ place_after (place_after at 0) m
+after_none at m = omega arith
 
 -- ---- the bodies
 
 -- no frame, and an end
-only_end : (at : ℕ) (bytes : List ℕ) (end : Ending) → EndSays bytes (behind at 0) end → BodiesSay bytes at (ends end)
+only_end : (at : ℕ) (bytes : List ℕ) (end : Ending) → EndSays bytes (place_after at 0) end → BodiesSay bytes at (ends end)
 only_end at bytes end says = ([], bytes, refl, refl, says)
 
 -- one more frame in front
-one_more : (at from to : ℕ) (bytes : List ℕ) (later : Bodies) → FirstSays bytes (Frame from to) → BodiesSay (drop to bytes) (behind at to) later
+one_more : (at from to : ℕ) (bytes : List ℕ) (later : Bodies) → FirstSays bytes (Frame from to) → BodiesSay (drop to bytes) (place_after at to) later
     → BodiesSay bytes at (with_body (slice_range bytes from to) later)
 one_more at from to bytes later first says =
     let front = take to bytes ++ says.0 in
     let whole : bytes ≡ front ++ says.1 = split_at to bytes ∙ ap (λ l. take to bytes ++ l) says.2 ∙ sym (append_assoc (take to bytes) says.0 says.1) in
     let long : to + length says.0 ≡ length front = ap (λ k. k + length says.0) (sym (length-take-le to bytes first.1)) ∙ sym (length-append (take to bytes) says.0) in
-    let place : behind (behind at to) (length says.0) ≡ behind at (length front) = behind_twice at to (length says.0) ∙ ap (behind at) long in
+    let place : place_after (place_after at to) (length says.0) ≡ place_after at (length front) = after_twice at to (length says.0) ∙ ap (place_after at) long in
     (front, says.1, whole, (take to bytes, says.0, first.0, says.3, refl), subst (λ p. EndSays says.1 p later.end) place says.4)
 
 by_first : (fuel at : ℕ) (b : ℕ) (rest : List ℕ) (first : First) → first_of (b ∷ rest) ≡ first → length (b ∷ rest) ≤ suc fuel
@@ -116,14 +116,14 @@ by_first : (fuel at : ℕ) (b : ℕ) (rest : List ℕ) (first : First) → first
     → FirstSays (b ∷ rest) first → BodiesSay (b ∷ rest) at (bodies_at at (b ∷ rest))
 by_first fuel at b rest More is short later says =
     let some : 0 < length (b ∷ rest) = omega arith in
-    subst (BodiesSay (b ∷ rest) at) (sym (bodies_at-torn at (b ∷ rest) is some)) (only_end at (b ∷ rest) (Torn (behind at (length (b ∷ rest)))) (some, behind_none at (length (b ∷ rest)), says))
+    subst (BodiesSay (b ∷ rest) at) (sym (bodies_at-torn at (b ∷ rest) is some)) (only_end at (b ∷ rest) (Torn (place_after at (length (b ∷ rest)))) (some, after_none at (length (b ∷ rest)), says))
 by_first fuel at b rest (Refused size) is short later says =
-    subst (BodiesSay (b ∷ rest) at) (sym (bodies_at-refused at (b ∷ rest) size is)) (only_end at (b ∷ rest) (Malformed (behind at size)) (size, behind_none at size, says))
+    subst (BodiesSay (b ∷ rest) at) (sym (bodies_at-refused at (b ∷ rest) size is)) (only_end at (b ∷ rest) (Malformed (place_after at size)) (size, after_none at size, says))
 by_first fuel at b rest (Oversized n) is short later says =
     subst (BodiesSay (b ∷ rest) at) (sym (bodies_at-long at (b ∷ rest) n is)) (only_end at (b ∷ rest) (PastLimit n) says)
 by_first fuel at b rest (Frame from to) is short later says =
     let shorter : length (drop to (b ∷ rest)) ≤ fuel = omega (arith, short, length-drop to (b ∷ rest), says.1, says.2) in
-    subst (BodiesSay (b ∷ rest) at) (sym (bodies_at-frame at (b ∷ rest) from to is)) (one_more at from to (b ∷ rest) _ says (later (behind at to) (drop to (b ∷ rest)) shorter))
+    subst (BodiesSay (b ∷ rest) at) (sym (bodies_at-frame at (b ∷ rest) from to is)) (one_more at from to (b ∷ rest) _ says (later (place_after at to) (drop to (b ∷ rest)) shorter))
 
 bodies_say_within : (fuel at : ℕ) (bytes : List ℕ) → length bytes ≤ fuel → BodiesSay bytes at (bodies_at at bytes)
 bodies_say_within fuel at [] short = only_end at [] Closed refl

@@ -13,12 +13,12 @@ use Rattle.lsp_frame.specs.declared.head.Head.TheVariants.{Broken, Gives}
 use Rattle.lsp_frame.specs.declared.first.First.TheVariants.{More, Oversized, Frame}
 use Rattle.lsp_frame.specs.Head.{go_on, step_of, head_at, head_from, head_of}
 use Rattle.lsp_frame.specs.First.{first_from, first_of}
-use Rattle.lsp_frame.specs.Bodies.{behind, bodies_at, bodies_of, with_body, with_bodies, IsReadTo}
+use Rattle.lsp_frame.specs.Bodies.{place_after, bodies_at, bodies_of, with_body, with_bodies, IsReadTo}
 use Rattle.lsp_frame.specs.Bodies.Ending.{Closed}
 use Rattle.lsp_frame.specs.Stream.{Stream, Gives as GivesBody}
 use Rattle.lsp_frame.specs.Written.{head, frame, frames, AreWithin}
-use Rattle.lsp_frame.specs.Grammar.{Each, number_behind, IsLengthLine, LengthLines, IsHead}
-use Rattle.lsp_frame.proofs.ScanLemmas.{Each-push, number_behind-push}
+use Rattle.lsp_frame.specs.Grammar.{Each, number_after, IsLengthLine, LengthLines, IsHead}
+use Rattle.lsp_frame.proofs.ScanLemmas.{Each-push, number_after-push}
 use Rattle.lsp_frame.proofs.RunLemmas.{run_on, runs, head_runs}
 use Rattle.lsp_frame.proofs.SaysLemmas.{done_cases, unended_cases, unended_is}
 use Rattle.lsp_frame.proofs.BodiesLemmas.{bodies_at-frame}
@@ -29,7 +29,7 @@ use Rattle.lsp_frame.proofs.GivesLemmas.{given_body}
 record IsDecimal (n : ℕ) (digits : List ℕ) : Type 0 where
   some : 0 < length digits
   each : Each is_ascii_digit digits
-  number : number_behind 0 digits ≡ n
+  number : number_after 0 digits ≡ n
 
 digit_is : (n : ℕ) → n < 10 → is_ascii_digit (48 + n) ≡ true
 digit_is n small = grind (arith, nat_tests)
@@ -40,11 +40,11 @@ one_digit n small = record { some = omega arith; each = (digit_is n small, tt); 
 more_digits : (n : ℕ) (digits : List ℕ) → 10 ≤ n → IsDecimal (n / 10) digits → IsDecimal n (digits ++ ((48 + n % 10) ∷ []))
 more_digits n digits large is =
     let small : n % 10 < 10 = omega arith in
-    let value : number_behind 0 digits * 10 + (48 + n % 10 - 48) ≡ n = omega (arith, is.number) in
+    let value : number_after 0 digits * 10 + (48 + n % 10 - 48) ≡ n = omega (arith, is.number) in
     record {
       some = omega (arith, length-append digits ((48 + n % 10) ∷ []));
       each = Each-push is_ascii_digit digits (48 + n % 10) is.each (digit_is (n % 10) small);
-      number = number_behind-push 0 digits (48 + n % 10) ∙ value;
+      number = number_after-push 0 digits (48 + n % 10) ∙ value;
     }
 
 decimal_is : (n : ℕ) → n < 2 ^ 64 → IsDecimal n (decimal n)
@@ -144,7 +144,7 @@ written_first body more within =
 
 -- the first body of written frames is the one that was written
 pub written_body : (at : ℕ) (body more : List ℕ) → length body ≤ 16777216
-    → bodies_at at (frame body ++ more) ≡ with_body body (bodies_at (behind at (length (frame body))) more)
+    → bodies_at at (frame body ++ more) ≡ with_body body (bodies_at (place_after at (length (frame body))) more)
 written_body at body more within =
     let h = head (length body) in
     let from = length h in
@@ -155,13 +155,13 @@ written_body at body more within =
     ap (λ k. take k (drop from (frame body ++ more))) span ∙ ap (λ l. take (length body) (drop from l)) whole ∙ ap (take (length body)) (drop-append_seam h (body ++ more)) ∙ take-append_seam body more in
     let long : to ≡ length (frame body) = sym (length-append h body) in
     let the_rest : drop to (frame body ++ more) ≡ more = ap (λ k. drop k (frame body ++ more)) long ∙ drop-append_seam (frame body) more in
-    bodies_at-frame at (frame body ++ more) from to (written_first body more within) ∙ ap (λ b. with_body b (bodies_at (behind at to) (drop to (frame body ++ more)))) the_body ∙ ap (λ k. with_body body (bodies_at (behind at k) (drop to (frame body ++ more)))) long ∙ ap (λ l. with_body body (bodies_at (behind at (length (frame body))) l)) the_rest
+    bodies_at-frame at (frame body ++ more) from to (written_first body more within) ∙ ap (λ b. with_body b (bodies_at (place_after at to) (drop to (frame body ++ more)))) the_body ∙ ap (λ k. with_body body (bodies_at (place_after at k) (drop to (frame body ++ more)))) long ∙ ap (λ l. with_body body (bodies_at (place_after at (length (frame body))) l)) the_rest
 
 -- written frames have the bodies that were written
 pub written_bodies : (at : ℕ) (bodies : List (List ℕ)) → AreWithin bodies → bodies_at at (frames bodies) ≡ record { list = bodies; end = Closed }
 written_bodies at [] within = refl
 written_bodies at (body ∷ bodies) within =
-    written_body at body (frames bodies) within.0 ∙ ap (with_body body) (written_bodies (behind at (length (frame body))) bodies within.1)
+    written_body at body (frames bodies) within.0 ∙ ap (with_body body) (written_bodies (place_after at (length (frame body))) bodies within.1)
 
 -- ---- what was read
 

@@ -7,7 +7,7 @@ use Rattle.lsp_frame.specs.declared.first.First.{First}
 use Rattle.lsp_frame.specs.declared.first.First.TheVariants.{More, Refused, Oversized, Frame}
 use Rattle.lsp_frame.specs.Head.{head_of}
 
--- behind a head of this size that gives this length, where there are so many bytes: a body has at most 16,777,216
+-- after a head of this size that gives this length, where there are so many bytes: a body has at most 16,777,216
 -- bytes, and is there where all of them are
 abbrev pub body_of : (length size available : ℕ) → First
 body_of length size available =

@@ -5,7 +5,7 @@ use Rattle.std.specs.Char.{to_ascii_lowercase, is_ascii_digit}
 use Rattle.lsp_frame.specs.Limits.{LONGEST_HEAD, LONGEST_BODY}
 use Rattle.lsp_frame.specs.declared.head.Head.{Head}
 use Rattle.lsp_frame.specs.declared.head.Head.TheVariants.{Unended, Broken, Gives}
-use Rattle.lsp_frame.specs.Bodies.{Bodies, Ending, behind}
+use Rattle.lsp_frame.specs.Bodies.{Bodies, Ending, place_after}
 use Rattle.lsp_frame.specs.Bodies.Ending.{Closed, Torn, Malformed, PastLimit}
 use Rattle.lsp_frame.specs.Bytes.{is_name_byte, is_value_byte, is_blank, content_length}
 
@@ -32,10 +32,10 @@ pub record IsOtherLine (line : List ℕ) : Type 0 where
   pub other : IsLengthName name → ⊥
   pub bytes : Each is_value_byte value
 
--- the number that decimal digits represent, behind the number that those before them represent
-abbrev pub number_behind : ℕ → List ℕ → ℕ
-number_behind value [] = value
-number_behind value (digit ∷ rest) = number_behind (value * 10 + (digit - 48)) rest
+-- the number that decimal digits represent, after the number that those before them represent
+abbrev pub number_after : ℕ → List ℕ → ℕ
+number_after value [] = value
+number_after value (digit ∷ rest) = number_after (value * 10 + (digit - 48)) rest
 
 -- a line that gives the length: `Content-Length`, `:`, 1 to 19 digits with spaces or tabs around them, and `\r\n`
 pub record IsLengthLine (line : List ℕ) (n : ℕ) : Type 0 where
@@ -51,20 +51,20 @@ pub record IsLengthLine (line : List ℕ) (n : ℕ) : Type 0 where
   pub few : length digits ≤ 19
   pub decimal : Each is_ascii_digit digits
   pub blank_back : Each is_blank back
-  pub number : n ≡ number_behind 0 digits
+  pub number : n ≡ number_after 0 digits
 
 abbrev pub EachOther : List (List ℕ) → Type 0
 EachOther [] = ⊤
 EachOther (line ∷ lines) = IsOtherLine line × EachOther lines
 
--- lines that don't give the length, one behind the other
+-- lines that don't give the length, one after the other
 abbrev pub OtherLines : List ℕ → Type 0
 OtherLines bytes = (lines : List (List ℕ)) × EachOther lines × (bytes ≡ concat lines)
 
 -- lines of which just one gives the length
 abbrev pub LengthLines : List ℕ → ℕ → Type 0
 LengthLines bytes n =
-    (before : List ℕ) × (line : List ℕ) × (behind : List ℕ) × OtherLines before × IsLengthLine line n × OtherLines behind × (bytes ≡ before ++ (line ++ behind))
+    (before : List ℕ) × (line : List ℕ) × (later : List ℕ) × OtherLines before × IsLengthLine line n × OtherLines later × (bytes ≡ before ++ (line ++ later))
 
 -- a head that gives the length n: lines of which just one gives it, and the empty line
 abbrev pub IsHead : List ℕ → ℕ → Type 0
@@ -100,7 +100,7 @@ pub record IsFrame (frame body : List ℕ) : Type 0 where
   pub short : length head ≤ LONGEST_HEAD
   pub within : length body ≤ LONGEST_BODY
 
--- frames of these bodies, one behind the other
+-- frames of these bodies, one after the other
 abbrev pub IsFrames : List ℕ → List (List ℕ) → Type 0
 IsFrames bytes [] = bytes ≡ []
 IsFrames bytes (body ∷ bodies) = (frame : List ℕ) × (later : List ℕ) × IsFrame frame body × IsFrames later bodies × (bytes ≡ frame ++ later)
@@ -124,17 +124,17 @@ pub record IsPastLimit (bytes : List ℕ) (n : ℕ) : Type 0 where
   pub short : length head ≤ LONGEST_HEAD
   pub past : LONGEST_BODY < n
 
--- how the bytes behind the last frame, which stand at this place, end
+-- how the bytes after the last frame, which stand at this place, end
 abbrev pub EndSays : (rest : List ℕ) (at : ℕ) → Ending → Type 0
 EndSays rest at Closed = rest ≡ []
-EndSays rest at (Torn place) = (0 < length rest) × (place ≡ behind at (length rest)) × ((IsUnended rest × (length rest < LONGEST_HEAD)) ⊎ IsBodyShort rest)
-EndSays rest at (Malformed place) = (size : ℕ) × (place ≡ behind at size) × BreaksAt rest size
+EndSays rest at (Torn place) = (0 < length rest) × (place ≡ place_after at (length rest)) × ((IsUnended rest × (length rest < LONGEST_HEAD)) ⊎ IsBodyShort rest)
+EndSays rest at (Malformed place) = (size : ℕ) × (place ≡ place_after at size) × BreaksAt rest size
 EndSays rest at (PastLimit n) = IsPastLimit rest n
 
--- the bytes from this place on are frames of these bodies, and behind them stands the end
+-- the bytes from this place on are frames of these bodies, and after them stands the end
 abbrev pub BodiesSay : (bytes : List ℕ) (at : ℕ) → Bodies → Type 0
 BodiesSay bytes at bodies =
-    (front : List ℕ) × (rest : List ℕ) × (bytes ≡ front ++ rest) × IsFrames front bodies.list × EndSays rest (behind at (length front)) bodies.end
+    (front : List ℕ) × (rest : List ℕ) × (bytes ≡ front ++ rest) × IsFrames front bodies.list × EndSays rest (place_after at (length front)) bodies.end
 
 -- a head of any size, and a body of the length that it gives
 abbrev pub IsAnyFrame : List ℕ → List ℕ → Type 0
@@ -149,7 +149,7 @@ AreFrames bytes (body ∷ bodies) = (frame : List ℕ) × (later : List ℕ) × 
 abbrev pub BeginsFrames : List ℕ → Type 0
 BeginsFrames bytes = (rest : List ℕ) × (bodies : List (List ℕ)) × AreFrames (bytes ++ rest) bodies
 
--- the first `size` bytes behind some frames go on to a list of frames, and with one byte more they don't, unless a head
+-- the first `size` bytes after some frames go on to a list of frames, and with one byte more they don't, unless a head
 -- has come to its limit
 abbrev pub IsLeastBreak : (front rest : List ℕ) (size : ℕ) → Type 0
 IsLeastBreak front rest size =

@@ -4,12 +4,12 @@ use Rattle.std.specs.declared.option.Option.{Option}
 use Rattle.std.specs.Char.{to_ascii_lowercase, is_ascii_digit}
 use Rattle.lsp_frame.specs.Limits.{LONGEST_HEAD}
 use Rattle.lsp_frame.specs.declared.head.Scan.{Scan}
-use Rattle.lsp_frame.specs.declared.head.Scan.TheVariants.{Line, Name, Value, LineEnd, Before, Digits, Behind, HeadEnd, Done}
+use Rattle.lsp_frame.specs.declared.head.Scan.TheVariants.{Line, Name, Value, LineEnd, Before, Digits, After, HeadEnd, Done}
 use Rattle.lsp_frame.specs.declared.head.Head.{Head}
 use Rattle.lsp_frame.specs.declared.head.Head.TheVariants.{Unended, Broken, Gives}
 use Rattle.lsp_frame.specs.Bytes.{is_name_byte, is_value_byte, is_blank, content_length}
 
--- how many bytes of a name match those of `content-length` in any case, behind one more byte: none where one differs
+-- how many bytes of a name match those of `content-length` in any case, after one more byte: none where one differs
 abbrev pub name_matched : Option ℕ → ℕ → Option ℕ
 name_matched None byte = None
 name_matched (Some count) byte =
@@ -41,22 +41,22 @@ abbrev pub value_step : Option ℕ → ℕ → Option Scan
 value_step length byte =
     if is_value_byte byte then Some (Value length) else (if byte == 13 then Some (LineEnd length) else None)
 
--- behind the digits of the length stand blanks
-abbrev pub behind_step : ℕ → ℕ → Option Scan
-behind_step value byte =
-    if is_blank byte then Some (Behind value) else (if byte == 13 then Some (LineEnd (Some value)) else None)
+-- after the digits of the length stand blanks
+abbrev pub after_step : ℕ → ℕ → Option Scan
+after_step value byte =
+    if is_blank byte then Some (After value) else (if byte == 13 then Some (LineEnd (Some value)) else None)
 
 -- and before them too
 abbrev pub blank_step : ℕ → ℕ → ℕ → Option Scan
 blank_step count value byte =
-    if count == 0 then (if is_blank byte then Some Before else None) else behind_step value byte
+    if count == 0 then (if is_blank byte then Some Before else None) else after_step value byte
 
 -- the digits are at most 19
 abbrev pub digits_step : ℕ → ℕ → ℕ → Option Scan
 digits_step count value byte =
     if is_ascii_digit byte then (if nat_lt count 19 then Some (Digits (count + 1) (value * 10 + (byte - 48))) else None) else blank_step count value byte
 
--- how far a head is read behind one more byte, or `None` where no head goes on so
+-- how far a head is read after one more byte, or `None` where no head goes on so
 abbrev pub step_of : Scan → ℕ → Option Scan
 step_of (Line length) byte = line_step length byte
 step_of (Name matched length) byte = name_step matched length byte
@@ -64,7 +64,7 @@ step_of (Value length) byte = value_step length byte
 step_of (LineEnd length) byte = if byte == 10 then Some (Line length) else None
 step_of Before byte = digits_step 0 0 byte
 step_of (Digits count value) byte = digits_step count value byte
-step_of (Behind value) byte = behind_step value byte
+step_of (After value) byte = after_step value byte
 step_of (HeadEnd length) byte = if byte == 10 then Some (Done length) else None
 step_of (Done length) byte = None
 
@@ -76,7 +76,7 @@ IsWithin (Value length) = Unit {0}
 IsWithin (LineEnd length) = Unit {0}
 IsWithin Before = Unit {0}
 IsWithin (Digits count value) = (count ≤ 19) × (value < 10 ^ count)
-IsWithin (Behind value) = Unit {0}
+IsWithin (After value) = Unit {0}
 IsWithin (HeadEnd length) = Unit {0}
 IsWithin (Done length) = Unit {0}
 
@@ -91,7 +91,7 @@ head_at size (Value length) = unended_at size
 head_at size (LineEnd length) = unended_at size
 head_at size Before = unended_at size
 head_at size (Digits count value) = unended_at size
-head_at size (Behind value) = unended_at size
+head_at size (After value) = unended_at size
 head_at size (HeadEnd length) = unended_at size
 head_at size (Done length) = Gives length size
 
@@ -106,7 +106,7 @@ abbrev pub go_on : Option Scan → Head → (Scan → Head) → Head
 go_on None broken next = broken
 go_on (Some scan) broken next = next scan
 
--- the head behind the first `size` bytes, which led here
+-- the head after the first `size` bytes, which led here
 abbrev pub head_from : ℕ → Scan → List ℕ → Head
 head_from size scan [] = head_at size scan
 head_from size scan (byte ∷ rest) =

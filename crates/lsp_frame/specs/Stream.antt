@@ -9,7 +9,7 @@ use Rattle.lsp_frame.specs.declared.reading.Input.TheVariants.{Body, End}
 use Rattle.lsp_frame.specs.declared.reading.FrameEnd.{FrameEnd}
 use Rattle.lsp_frame.specs.declared.reading.FrameEnd.TheVariants.{Broken, TooLong, Fault, NoMemory}
 use Rattle.lsp_frame.specs.First.{first_of}
-use Rattle.lsp_frame.specs.Bodies.{behind, bodies_at, with_body, ends}
+use Rattle.lsp_frame.specs.Bodies.{place_after, bodies_at, with_body, ends}
 use Rattle.lsp_frame.specs.Bodies.Ending.{Closed, Torn, Malformed, PastLimit}
 
 -- an input that is being read: the bytes that were read and that no given frame has, the place of the first of them,
@@ -29,12 +29,12 @@ Reads left left' pending all = (read : List ℕ) × Consumes left left' read × 
 -- the bytes break at this place, whatever follows, or they end here inside a frame and nothing follows
 abbrev pub Breaks : (all : List ℕ) (at place : ℕ) → Option (List ℕ) → Type 0
 Breaks all at place left =
-    ((size : ℕ) × (first_of all ≡ Refused size) × (place ≡ behind at size)) ⊎ ((first_of all ≡ More) × (0 < length all) × IsAtEnd left × (place ≡ behind at (length all)))
+    ((size : ℕ) × (first_of all ≡ Refused size) × (place ≡ place_after at size)) ⊎ ((first_of all ≡ More) × (0 < length all) × IsAtEnd left × (place ≡ place_after at (length all)))
 
--- the first frame of the bytes has this body, and the stream goes on behind it
+-- the first frame of the bytes has this body, and the stream goes on after it
 abbrev pub Gives : (all : List ℕ) (at : ℕ) (new : Stream) (body : List ℕ) → Type 0
 Gives all at new body =
-    (from : ℕ) × (to : ℕ) × (first_of all ≡ Frame from to) × (body ≡ slice_range all from to) × (new ≡ stream (drop to all) (behind at to) None)
+    (from : ℕ) × (to : ℕ) × (first_of all ≡ Frame from to) × (body ≡ slice_range all from to) × (new ≡ stream (drop to all) (place_after at to) None)
 
 -- what a call answers by the bytes that were pending and that it read, and what it leaves.
 -- A fault comes only where the bytes are undecided: so no read is made for what stands there already
@@ -52,10 +52,10 @@ abbrev pub IsNext : (old new : Stream) (left left' : Option (List ℕ)) (before 
 IsNext old new left left' before now result =
     (all : List ℕ) × Reads left left' old.pending all × Answers all old.at new left' before now result
 
--- a body is given, or refused for want of memory
+-- a body is given, or refused because memory ran out
 abbrev pub IsTaken : (old new : Stream) (from to : ℕ) → Result Input FrameEnd → Type 0
 IsTaken old new from to (Ok (Body body)) =
-    (body.items ≡ slice_range old.pending from to) × (new ≡ stream (drop to old.pending) (behind old.at to) old.ended)
+    (body.items ≡ slice_range old.pending from to) × (new ≡ stream (drop to old.pending) (place_after old.at to) old.ended)
 IsTaken old new from to (Ok End) = ⊥
 IsTaken old new from to (Err end) = (end ≡ NoMemory) × (new ≡ stream old.pending old.at (Some NoMemory))
 
@@ -68,7 +68,7 @@ Fills old new left left' before now (Err (TooLong n)) = ⊥
 Fills old new left left' before now (Err Fault) = Keeps left left' × (new ≡ old) × (now ≡ before + 1)
 Fills old new left left' before now (Err NoMemory) = ((read : List ℕ) × Consumes left left' read) × (now ≡ before)
 
--- what a call answers of the bytes of a stream, those that its source has left among them, from a place on. Behind a
+-- what a call answers of the bytes of a stream, those that its source has left among them, from a place on. After a
 -- body the bodies go on with what is left of them
 abbrev pub GivesBodies : (bytes : Option (List ℕ)) (at : ℕ) (rest : Option (List ℕ)) (at' : ℕ) → Result Input FrameEnd → Type 0
 GivesBodies None at rest at' result = ⊤

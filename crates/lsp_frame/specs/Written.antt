@@ -16,12 +16,12 @@ head n = codes "Content-Length: " ++ decimal n ++ codes "\r\n\r\n"
 abbrev pub frame : List ℕ → List ℕ
 frame body = head (length body) ++ body
 
--- the frames of these bodies, one behind the other
+-- the frames of these bodies, one after the other
 abbrev pub frames : List (List ℕ) → List ℕ
 frames [] = []
 frames (body ∷ bodies) = frame body ++ frames bodies
 
--- a fault raised the count by one, and the sink took a first part of the bytes; for want of memory nothing was written
+-- a fault raised the count by one, and the sink took a first part of the bytes; because memory ran out nothing was written
 abbrev pub WritesShort : WriteEnd → List ℕ → (old new : Option (List ℕ)) → (before now : ℕ) → Type 0
 WritesShort Fault bytes old new before now = AppendsPart old new bytes × (now ≡ before + 1)
 WritesShort NoMemory bytes old new before now = Keeps old new × (now ≡ before)

@@ -25,12 +25,12 @@ pub fn first_frame(bytes: &[u8]) -> First
     match read_head(bytes) {
         Head::Unended => First::More,
         Head::Broken { at } => First::Refused { at },
-        Head::Gives { length, size } => body_behind(length, size, bytes.len()),
+        Head::Gives { length, size } => body_after(length, size, bytes.len()),
     }
 }
 
 // The frame whose head has this size and gives this length, among so many bytes.
-fn body_behind(length: u64, size: usize, available: usize) -> First
+fn body_after(length: u64, size: usize, available: usize) -> First
     ensures { result ≡ body_of length size available }
 {
     if length > LENGTH_LIMIT {

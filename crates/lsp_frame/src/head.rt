@@ -1,6 +1,6 @@
 ghost use Rattle.std.specs.Prelude.{◌≡◌, ◌+◌, ◌*◌, ◌-◌, ◌^◌, ◌<◌, ◌≤◌, IfSome, IfOk};
 ghost use Rattle.lsp_frame.specs.Bytes.{is_name_byte, is_value_byte, is_blank};
-ghost use Rattle.lsp_frame.specs.Head.{name_matched, line_step, name_step, value_step, digits_step, blank_step, behind_step, step_of, head_at, head_of, IsWithin};
+ghost use Rattle.lsp_frame.specs.Head.{name_matched, line_step, name_step, value_step, digits_step, blank_step, after_step, step_of, head_at, head_of, IsWithin};
 
 /// How far a head has been read. `length` is the value of the line `Content-Length`, where that was read.
 #[derive(Clone, Copy, Debug, PartialEq, Eq)]
@@ -18,26 +18,26 @@ pub enum Scan {
     Value {
         length: Option<u64>,
     },
-    /// Behind the `\r` of a line.
+    /// After the `\r` of a line.
     LineEnd {
         length: Option<u64>,
     },
     /// In the value of `Content-Length`, before its digits.
     Before,
-    /// Behind this many of its digits, which have this value.
+    /// After this many of its digits, which have this value.
     Digits {
         count: u8,
         value: u64,
     },
-    /// Behind a blank that follows its digits.
-    Behind {
+    /// After a blank that follows its digits.
+    After {
         value: u64,
     },
-    /// Behind the `\r` of the empty line.
+    /// After the `\r` of the empty line.
     HeadEnd {
         length: u64,
     },
-    /// Behind the head.
+    /// After the head.
     Done {
         length: u64,
     },
@@ -77,7 +77,7 @@ fn is_space(byte: u8) -> bool
     byte == b' ' || byte == b'\t'
 }
 
-// The matched bytes behind one more byte of a name.
+// The matched bytes after one more byte of a name.
 fn match_name(matched: Option<u8>, byte: u8) -> Option<u8>
     ensures { result ≡ name_matched matched byte }
 {
@@ -147,7 +147,7 @@ fn in_value(length: Option<u64>, byte: u8) -> Option<Scan>
     }
 }
 
-// The number behind one more digit.
+// The number after one more digit.
 fn push_digit(count: u8, value: u64, digit: u8) -> u64
     requires count { count < 19 }
     requires value { value < 10 ^ count }
@@ -165,7 +165,7 @@ fn in_digits(count: u8, value: u64, byte: u8) -> Option<Scan>
     ensures within { IfSome result IsWithin }
 {
     if !byte.is_ascii_digit() {
-        return before_or_behind(count, value, byte);
+        return before_or_after(count, value, byte);
     }
     if count >= 19 {
         return None;
@@ -176,12 +176,12 @@ fn in_digits(count: u8, value: u64, byte: u8) -> Option<Scan>
     })
 }
 
-fn before_or_behind(count: u8, value: u64, byte: u8) -> Option<Scan>
+fn before_or_after(count: u8, value: u64, byte: u8) -> Option<Scan>
     ensures step { result ≡ blank_step count value byte }
     ensures within { IfSome result IsWithin }
 {
     if count > 0 {
-        behind_digits(value, byte)
+        after_digits(value, byte)
     } else if is_space(byte) {
         Some(Scan::Before)
     } else {
@@ -189,12 +189,12 @@ fn before_or_behind(count: u8, value: u64, byte: u8) -> Option<Scan>
     }
 }
 
-fn behind_digits(value: u64, byte: u8) -> Option<Scan>
-    ensures step { result ≡ behind_step value byte }
+fn after_digits(value: u64, byte: u8) -> Option<Scan>
+    ensures step { result ≡ after_step value byte }
     ensures within { IfSome result IsWithin }
 {
     if is_space(byte) {
-        Some(Scan::Behind { value })
+        Some(Scan::After { value })
     } else if byte == b'\r' {
         Some(Scan::LineEnd {
             length: Some(value),
@@ -204,7 +204,7 @@ fn behind_digits(value: u64, byte: u8) -> Option<Scan>
     }
 }
 
-/// The head behind one more byte, or `None` where no head goes on so.
+/// The head after one more byte, or `None` where no head goes on so.
 pub fn step(scan: Scan, byte: u8) -> Option<Scan>
     requires { IsWithin scan }
     ensures step { result ≡ step_of scan byte }
@@ -223,7 +223,7 @@ pub fn step(scan: Scan, byte: u8) -> Option<Scan>
         }
         Scan::Before => in_digits(0, 0, byte),
         Scan::Digits { count, value } => in_digits(count, value, byte),
-        Scan::Behind { value } => behind_digits(value, byte),
+        Scan::After { value } => after_digits(value, byte),
         Scan::HeadEnd { length } => {
             if byte == b'\n' {
                 Some(Scan::Done { length })

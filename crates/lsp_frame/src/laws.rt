@@ -31,8 +31,8 @@ pub fn written()
         → bodies_of (frames bodies) ≡ record { list = bodies; end = Closed } }
 {}
 
-/// What was read of an input, call after call, is frames of the bodies that were given, and the pending bytes behind
-/// them: at the start, behind a call that gave a body, and behind one that answered otherwise.
+/// What was read of an input, call after call, is frames of the bodies that were given, and the pending bytes after
+/// them: at the start, after a call that gave a body, and after one that answered otherwise.
 pub fn reads()
     ensures start { IsReadTo [] [] [] 0 }
     ensures body { (read : List ℕ) (given : List (List ℕ)) (pending : List ℕ) (at : ℕ) (new body : List ℕ) (after : Stream)

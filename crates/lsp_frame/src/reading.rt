@@ -1,5 +1,5 @@
 ghost use Rattle.std.specs.Prelude.{◌≡◌, ◌+◌, ◌-◌, ◌^◌, ◌<◌, ◌≤◌, length, take, drop, slice_range, Some, None, Ok, Err};
-ghost use Rattle.lsp_frame.specs.Bodies.{behind};
+ghost use Rattle.lsp_frame.specs.Bodies.{place_after};
 
 use crate::first::{First, first_frame};
 use srb_io::Source;
@@ -28,7 +28,7 @@ pub enum FrameEnd {
     TooLong { length: u64 },
     /// A read failed.
     Fault,
-    /// Want of memory.
+    /// Out of memory.
     NoMemory,
 }
 
@@ -159,9 +159,9 @@ impl Frames {
         Ok(Input::Body(body))
     }
 
-    // The answer where the pending bytes break behind so many of them.
+    // The answer where the pending bytes break after so many of them.
     fn broken(&self, size: usize) -> FrameEnd
-        ensures { result ≡ FrameEnd.Broken (behind self.now.at size) }
+        ensures { result ≡ FrameEnd.Broken (place_after self.now.at size) }
     {
         FrameEnd::Broken {
             at: self.at.saturating_add(size as u64),

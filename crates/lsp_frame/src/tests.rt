@@ -19,7 +19,7 @@ fn source_of(
 
 fn is_send<T: Send>(_value: &T) {}
 
-// All bodies, each with a `|` behind it, and the end.
+// All bodies, each with a `|` after it, and the end.
 fn read_all(
     alloc: Global,
     mut source: MemSource,

@@ -10,7 +10,7 @@ use std::alloc::{AllocError, Global};
 pub enum WriteEnd {
     /// A write failed. The sink took a first part of the frame.
     Fault,
-    /// Want of memory. Nothing was written.
+    /// Out of memory. Nothing was written.
     NoMemory,
 }
 

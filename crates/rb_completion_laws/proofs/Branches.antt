@@ -19,7 +19,7 @@ use Rattle.rb_expr.specs.declared.ending.Ending.TheVariants as ending
 use Rattle.rb_expr.specs.Statements.{ending_of}
 use Rattle.rb_expr.specs.Reading.{Outcome, Parser, and_then, sees, skip_separators}
 use Rattle.rb_expr.specs.Branches as spec
-use Rattle.rb_expr.specs.Branches.{after_then, then_word, do_word, rescues_all, rescue_variable, otherwise, elsif_arm, elsif_arms_from, elsif_arms, arms_of, branch, repeated, patterns_from, when_arm, when_arms_from, when_arms, choice, rescue_clause, rescues_from, rescues, otherwise_behind, guarded, guards}
+use Rattle.rb_expr.specs.Branches.{after_then, then_word, do_word, rescues_all, rescue_variable, otherwise, elsif_arm, elsif_arms_from, elsif_arms, arms_of, branch, repeated, patterns_from, when_arm, when_arms_from, when_arms, choice, rescue_clause, rescues_from, rescues, otherwise_after, guarded, guards}
 use Rattle.rb_rules.specs.Tokens.{Is, IsAny}
 use Rattle.rb_rules.specs.Forms.{Inside, is_begin}
 use Rattle.rb_rules.specs.Grammar.{IsRow, BRANCH_WORDS, LOOP_WORDS, Then, Parted, RescueVariable, DerivesBody, DerivesTerm, DerivesArms, DerivesElse, DerivesSubject, DerivesWhens, DerivesPatterns, DerivesGuarded, DerivesRescues, DerivesRaised, DerivesEnsure}
@@ -36,7 +36,7 @@ use Rattle.rb_rules.specs.Grammar.DerivesRaised.{AnyError, SomeErrors}
 use Rattle.rb_rules.specs.Grammar.DerivesEnsure.{NoEnsure, SomeEnsure}
 use Rattle.rb_rules.specs.Grammar.DerivesPrimary.{Branches, Loops, Guards, Cases}
 use Rattle.rb_grammar.proofs.Steps.{same, identifier}
-use Rattle.rb_completion_laws.proofs.Steps.{Rel, Reach, Completes, Stands, Seq, stands-as, seq-stands, reach-as, reach-more, reach-one, complete-as, complete-then, complete-behind, complete-reach, Goes, bind, goes-as, gap-stands, Plain, plainly, seq, done, refusing, choosing, One, one-stands, expecting, naming, taken, parted, answering, if-seen, Perhaps, perhaps-stands, nothing, something, Closing, stands-end, seq-closing, closingly, headed-closing, last-stands, closing, before-last}
+use Rattle.rb_completion_laws.proofs.Steps.{Rel, Reach, Completes, Stands, Seq, stands-as, seq-stands, reach-as, reach-more, reach-one, complete-as, complete-then, complete-after, complete-reach, Goes, bind, goes-as, gap-stands, Plain, plainly, seq, done, refusing, choosing, One, one-stands, expecting, naming, taken, parted, answering, if-seen, Perhaps, perhaps-stands, nothing, something, Closing, stands-end, seq-closing, closingly, headed-closing, last-stands, closing, before-last}
 use Rattle.rb_completion_laws.proofs.Begins.{noded}
 use Rattle.rb_completion_laws.proofs.Viable.{Viable, ABody, AParted, bodied, ASimple, ATerm, APrimary, ends-so, name-stands, body-stands, simple-stands, term-stands}
 
@@ -223,7 +223,7 @@ module _ (nested : Form → Bool → Parser Tree) (ih : Viable nested) (turns : 
   patterns-stand : Stands SomePatterns
   patterns-stand = stands-as (term-stands free) (λ us zs h. (_, LastPattern _ _ _ _ h.1))
 
-  -- a list goes on behind a comma
+  -- a list goes on after a comma
   patterns-more : (us zs : List Token) → Seq (ATerm free) (Perhaps (Seq (One shape.Comma) SomePatterns)) us zs → SomePatterns us zs
   patterns-more us zs h = by h.mid h.first.0 h.first.1 h.second
     where
@@ -323,13 +323,13 @@ module _ (nested : Form → Bool → Parser Tree) (ih : Viable nested) (turns : 
       let b = body-stands Inside free in
       let t = seq-stands then-stands b in
       let v = seq-stands variable-stands t in
-      taken shape.Rescue _ k ks is (bind (raised-goes ks) (λ rest q. complete-as (complete-behind one (complete-then q v)) (clause-made _))
-      (λ found ps rp. bind (variable-goes ps) (λ rest q. complete-as (complete-behind one (complete-behind rp (complete-then q t))) (clause-made _))
-      (λ variable qs rq. bind (then-goes qs) (λ rest q. complete-as (complete-behind one (complete-behind rp (complete-behind rq (complete-then q b)))) (clause-made _))
-      (λ place rs rr. bind (ih.body free rs) (λ rest q. complete-as (complete-behind one (complete-behind rp (complete-behind rq (complete-behind rr q)))) (clause-made _))
+      taken shape.Rescue _ k ks is (bind (raised-goes ks) (λ rest q. complete-as (complete-after one (complete-then q v)) (clause-made _))
+      (λ found ps rp. bind (variable-goes ps) (λ rest q. complete-as (complete-after one (complete-after rp (complete-then q t))) (clause-made _))
+      (λ variable qs rq. bind (then-goes qs) (λ rest q. complete-as (complete-after one (complete-after rp (complete-after rq (complete-then q b)))) (clause-made _))
+      (λ place rs rr. bind (ih.body free rs) (λ rest q. complete-as (complete-after one (complete-after rp (complete-after rq (complete-after rr q)))) (clause-made _))
       (λ body ys m. record { told = (reach-as (reach-more one (reach-more rp (reach-more rq (reach-more rr m.0)))) (clause-made _), λ e. reach-as (reach-more one (reach-more rp (reach-more rq (reach-more rr (m.1 e))))) (clause-made _)) })))))
 
-  -- clauses behind what parts a body from them
+  -- clauses after what parts a body from them
   abbrev SomeClauses : Rel
   SomeClauses us zs = (before : Tree) (ws : List Token) → Parted before ws us → (clause : Rescue Tree) × (clauses : List (Rescue Tree)) × DerivesRescues free before (clause ∷ clauses) ws zs
 
@@ -359,21 +359,21 @@ module _ (nested : Form → Bool → Parser Tree) (ih : Viable nested) (turns : 
   abbrev Clausal : List Token → Outcome (List (Rescue Tree)) → Type 0
   Clausal xs o = Goes o (λ cs ys. IsSome cs × Reach xs ys SomeClauses) (λ rest. Completes xs rest SomeClauses)
 
-  -- a clause, and those behind it
+  -- a clause, and those after it
   abbrev From : ℕ → Type 0
   From n = (found : List (Rescue Tree)) (k : Token) (ks : List Token) → Is shape.Rescue k → Clausal (k ∷ ks) (and_then (rescue_clause nested turns free (k ∷ ks)) (λ c. rescues_from nested turns free n (found ++ c ∷ [])))
 
-  behind-clause : (n : ℕ) → From n → (found : List (Rescue Tree)) → IsSome found → (all ys : List Token) → Reach all ys AClause → (sees shape.Rescue ys ≡ true → Reach all ys APartedClause) → Clausal all (rescues_from nested turns free (suc n) found ys)
+  after-clause : (n : ℕ) → From n → (found : List (Rescue Tree)) → IsSome found → (all ys : List Token) → Reach all ys AClause → (sees shape.Rescue ys ≡ true → Reach all ys APartedClause) → Clausal all (rescues_from nested turns free (suc n) found ys)
   unfolding rescues_from
-  behind-clause n again found some all [] r p = record { told = (some, reach-as r last-clause) }
-  behind-clause n again found some all (t ∷ ts) r p = choosing (same_shape (shape_of t.kind) shape.Rescue)
-      (λ e. goes-as (again found t ts (same _ _ e)) (λ cs ys m. (m.0, reach-as (reach-more (p e) m.1) more-clauses)) (λ rest q. complete-as (complete-behind (p e) q) more-clauses))
+  after-clause n again found some all [] r p = record { told = (some, reach-as r last-clause) }
+  after-clause n again found some all (t ∷ ts) r p = choosing (same_shape (shape_of t.kind) shape.Rescue)
+      (λ e. goes-as (again found t ts (same _ _ e)) (λ cs ys m. (m.0, reach-as (reach-more (p e) m.1) more-clauses)) (λ rest q. complete-as (complete-after (p e) q) more-clauses))
       (λ e. record { told = (some, reach-as r last-clause) })
 
   clauses-from : (n : ℕ) → From n
   unfolding rescues_from
   clauses-from zero found k ks is = bind (clause-goes k ks is) (λ rest q. complete-as q last-clause) (λ c ys m. record { told = complete-as (complete-reach m.0) last-clause })
-  clauses-from (suc n) found k ks is = bind (clause-goes k ks is) (λ rest q. complete-as q last-clause) (λ c ys m. behind-clause n (clauses-from n) (found ++ c ∷ []) (added found c) (k ∷ ks) ys m.0 m.1)
+  clauses-from (suc n) found k ks is = bind (clause-goes k ks is) (λ rest q. complete-as q last-clause) (λ c ys m. after-clause n (clauses-from n) (found ++ c ∷ []) (added found c) (k ∷ ks) ys m.0 m.1)
 
   -- a body with some clauses
   abbrev ARescued : Rel
@@ -409,7 +409,7 @@ module _ (nested : Form → Bool → Parser Tree) (ih : Viable nested) (turns : 
   rescues-go zero xs ps r p = record { told = complete-as (complete-reach r) bare-guarded }
   rescues-go (suc n) xs [] r p = record { told = r }
   rescues-go (suc n) xs (t ∷ ts) r p = choosing (same_shape (shape_of t.kind) shape.Rescue)
-      (λ e. goes-as (clauses-from n [] t ts (same _ _ e)) (λ cs ys m. some-rescued xs ys cs m.0 (reach-as (reach-more (p e) m.1) rescued)) (λ rest q. complete-as (complete-behind (p e) q) (λ us zs h. rescued-guarded us zs (rescued us zs h))))
+      (λ e. goes-as (clauses-from n [] t ts (same _ _ e)) (λ cs ys m. some-rescued xs ys cs m.0 (reach-as (reach-more (p e) m.1) rescued)) (λ rest q. complete-as (complete-after (p e) q) (λ us zs h. rescued-guarded us zs (rescued us zs h))))
       (λ e. record { told = r })
 
   abbrev AnEnsure : Rel
@@ -430,15 +430,15 @@ module _ (nested : Form → Bool → Parser Tree) (ih : Viable nested) (turns : 
   whole-rescued : (us zs : List Token) → Seq ARescued (Seq AnElse AnEnsure) us zs → AGuarded us zs
   whole-rescued us zs h = (_, Rescued _ _ _ _ _ _ _ _ _ _ _ h.first.4 h.first.5 h.second.first.1 h.second.second.1)
 
-  behind-rescues : (body : Tree) (xs : List Token) (cs : List (Rescue Tree)) (ys : List Token) → Reach xs ys (Rescues cs) →
-      Plain {A = Guarded Tree} xs (and_then (otherwise_behind nested turns free cs ys) (λ other. λ zs. and_then (spec.ensure nested turns free zs) (λ last. λ vs. Ok (record { body = body; rescues = cs; otherwise = other; ensure = last }, vs)))) AGuarded
-  unfolding otherwise_behind
-  behind-rescues body xs [] ys r = goes-as (answering _ (ensure-goes ys)) (λ g zs m. reach-as (reach-more r m) whole-bare) (λ rest q. complete-as (complete-behind r q) whole-bare)
-  behind-rescues body xs (c ∷ cs) ys r = goes-as (seq (else-goes ys) ensure-stands (λ other zs. answering _ (ensure-goes zs))) (λ g zs m. reach-as (reach-more r m) whole-rescued) (λ rest q. complete-as (complete-behind r q) whole-rescued)
+  after-rescues : (body : Tree) (xs : List Token) (cs : List (Rescue Tree)) (ys : List Token) → Reach xs ys (Rescues cs) →
+      Plain {A = Guarded Tree} xs (and_then (otherwise_after nested turns free cs ys) (λ other. λ zs. and_then (spec.ensure nested turns free zs) (λ last. λ vs. Ok (record { body = body; rescues = cs; otherwise = other; ensure = last }, vs)))) AGuarded
+  unfolding otherwise_after
+  after-rescues body xs [] ys r = goes-as (answering _ (ensure-goes ys)) (λ g zs m. reach-as (reach-more r m) whole-bare) (λ rest q. complete-as (complete-after r q) whole-bare)
+  after-rescues body xs (c ∷ cs) ys r = goes-as (seq (else-goes ys) ensure-stands (λ other zs. answering _ (ensure-goes zs))) (λ g zs m. reach-as (reach-more r m) whole-rescued) (λ rest q. complete-as (complete-after r q) whole-rescued)
 
   pub guarded-goes : (xs : List Token) → Plain xs (guarded nested turns free xs) AGuarded
   unfolding guarded rescues
-  guarded-goes xs = bind (ih.body free xs) (λ rest q. complete-as q bare-guarded) (λ body ps m. bind (rescues-go turns xs ps m.0 m.1) (λ rest q. q) (λ cs ys r. behind-rescues body xs cs ys r))
+  guarded-goes xs = bind (ih.body free xs) (λ rest q. complete-as q bare-guarded) (λ body ps m. bind (rescues-go turns xs ps m.0 m.1) (λ rest q. q) (λ cs ys r. after-rescues body xs cs ys r))
 
   -- a form that nothing is made of, and a `begin`
   abbrev pub Guarding : Tree → Type 0

@@ -32,10 +32,10 @@ use Rattle.rb_rules.specs.Grammar.DerivesBlock.{Braces, DoEnd}
 use Rattle.rb_rules.specs.Grammar.DerivesDo.{NoDo, SomeDo}
 use Rattle.rb_grammar.proofs.Steps.{same, seen, within-more, within-token, label, identifier}
 use Rattle.rb_grammar.proofs.Lists.{and-left, and-right, Allowed, Ordered, last-ordered, more-ordered, last-got, Fresh, apart-all, noted-new}
-use Rattle.rb_completion_laws.proofs.Steps.{Rel, Reach, Completes, Stands, Seq, stands-as, seq-stands, reach-as, reach-more, reach-one, reach-token, reach-within, complete-as, complete-then, complete-behind, complete-token, Goes, bind, goes-as, choosing, Plain, plainly, done, refusing, answering, headed-closing, One, new_token, one-stands, expecting, naming, gap, if-seen, Ended, AnyEnd, Closing, stands-end, seq-closing, closingly, Last, last-stands, closing, before-last, before-one, taken, led, out, reach-this}
+use Rattle.rb_completion_laws.proofs.Steps.{Rel, Reach, Completes, Stands, Seq, stands-as, seq-stands, reach-as, reach-more, reach-one, reach-token, reach-within, complete-as, complete-then, complete-after, complete-token, Goes, bind, goes-as, choosing, Plain, plainly, done, refusing, answering, headed-closing, One, new_token, one-stands, expecting, naming, gap, if-seen, Ended, AnyEnd, Closing, stands-end, seq-closing, closingly, Last, last-stands, closing, before-last, before-one, taken, led, out, reach-this}
 use Rattle.rb_completion_laws.proofs.Viable.{Viable, bodied, ATerm, body-stands, term-stands}
 use Rattle.rb_completion_laws.proofs.Branches.{end-stands}
-use Rattle.rb_completion_laws.proofs.Lists.{paren-one, bracket-one, brace-one, ClosedBy, closed-stands, behind-argument-goes}
+use Rattle.rb_completion_laws.proofs.Lists.{paren-one, bracket-one, brace-one, ClosedBy, closed-stands, after-argument-goes}
 use Rattle.rb_completion_laws.proofs.Fresh.{new_name, new-name}
 
 pub label-one : Stands (One shape.Label)
@@ -92,7 +92,7 @@ module _ (nested : Form → Bool → Parser Tree) (ih : Viable nested) (turns : 
   keyword-goes : (keywords takes : Bool) (xs : List Token) → Argued keywords takes xs (keyword nested turns free takes xs)
   unfolding keyword
   keyword-goes keywords takes xs = bind (naming shape.Label label-one xs) (λ rest r. complete-as (complete-then r (term-stands takes)) (by-name keywords takes))
-      (λ l ys r. bind (ih.term takes ys) (λ rest q. complete-as (complete-behind r q) (by-name keywords takes))
+      (λ l ys r. bind (ih.term takes ys) (λ rest q. complete-as (complete-after r q) (by-name keywords takes))
       (λ v zs q. record { told = reach-as (reach-more r q) (λ us zs h. led (LikeArgument keywords takes (argument.Keyword l.name l.span v)) h (λ l ls is d. (_, ByName _ _ _ _ _ _ (label l is) d.1, refl, tt))) }))
 
   passed-goes : (keywords takes : Bool) (t : Token) (ts : List Token) → Is shape.Ampersand t → Argued keywords takes (t ∷ ts) (passed_block nested turns free takes (t ∷ ts))
@@ -175,13 +175,13 @@ module _ (nested : Form → Bool → Parser Tree) (ih : Viable nested) (turns : 
   listed-goes closer one zero keywords found xs = refusing xs (listed-stands closer one keywords)
   listed-goes closer one (suc n) keywords found xs = bind (argument-goes keywords true xs)
       (λ rest r. complete-as (complete-then r (closed-stands closer one)) (λ us zs h. (h.second.0, one-listed closer keywords h.second.0 us zs (record { mid = h.mid; first = h.first; second = h.second.1 }))))
-      (λ a ps ra. bind (behind-argument-goes closer one (order_of a) ps)
-      (λ rest q. complete-as (complete-behind ra q) (λ us zs h. (h.second.0, one-listed closer keywords h.second.0 us zs (record { mid = h.mid; first = like-some keywords true a _ _ h.first; second = h.second.1 }))))
+      (λ a ps ra. bind (after-argument-goes closer one (order_of a) ps)
+      (λ rest q. complete-as (complete-after ra q) (λ us zs h. (h.second.0, one-listed closer keywords h.second.0 us zs (record { mid = h.mid; first = like-some keywords true a _ _ h.first; second = h.second.1 }))))
       (elim [
         | Some place ↦ λ ys g. record { told = (g.0, within-more (reach-within ra) g.1, reach-as (reach-more ra g.2) (listed-last closer keywords found a g.0)) }
         | None ↦ λ qs g. goes-as (listed-goes closer one n (is_keyword (order_of a)) (found ++ a ∷ []) qs)
             (λ r zs m. (m.0, within-more (reach-within (reach-more ra g.0)) m.1, reach-as (reach-more (reach-more ra g.0) m.2) (λ us zs h. listed-more closer keywords a r.0 m.0 us zs g.1 h)))
-            (λ rest q. complete-as (complete-behind (reach-more ra g.0) q) (λ us zs h. (h.second.0, more-listed closer keywords a h.second.0 us zs g.1 (record { mid = h.mid; first = h.first; second = h.second.1 }))))
+            (λ rest q. complete-as (complete-after (reach-more ra g.0) q) (λ us zs h. (h.second.0, more-listed closer keywords a h.second.0 us zs g.1 (record { mid = h.mid; first = h.first; second = h.second.1 }))))
       ]))
 
   -- in brackets, up to the closing one
@@ -220,7 +220,7 @@ module _ (nested : Form → Bool → Parser Tree) (ih : Viable nested) (turns : 
       (λ rest q. complete-as q (λ us zs h. (h.0, ([], empty-inside h.0 us zs h.1)))))
       (λ e. many-goes xs)
 
-  -- with the opening bracket, behind any token
+  -- with the opening bracket, after any token
   abbrev pub SomeBrackets : Token → Rel
   SomeBrackets last us zs = (arguments : List (Argument Tree)) × ((before : Token) → DerivesBrackets (Some arguments) before last us zs)
 
@@ -231,7 +231,7 @@ module _ (nested : Form → Bool → Parser Tree) (ih : Viable nested) (turns : 
   unfolding brackets
   bracketed-goes t ts is = taken shape.OpenParen _ t ts is (goes-as (inside-goes (skip_separators ts))
       (λ r ys m. (m.0, within-token t (within-more (reach-within (gap ts)) m.1), reach-token t (reach-as (reach-more (gap ts) m.2) (λ us zs h. (h.second.0, (λ before. h.second.1 before t us is h.first), h.second.2)))))
-      (λ rest q. complete-token t (complete-as (complete-behind (gap ts) q) (λ us zs h. (h.second.0, (h.second.1.0, λ before. h.second.1.1 before t us is h.first))))))
+      (λ rest q. complete-token t (complete-as (complete-after (gap ts) q) (λ us zs h. (h.second.0, (h.second.1.0, λ before. h.second.1.1 before t us is h.first))))))
 
   -- brackets, if they stand
   abbrev pub Given : List Token → Option (List (Argument Tree)) → List Token → Type 0
@@ -262,7 +262,7 @@ module _ (nested : Form → Bool → Parser Tree) (ih : Viable nested) (turns : 
   unfolding index_arguments listed
   index-goes xs = goes-as (listed-goes shape.CloseBracket bracket-one turns false [] (skip_separators xs))
       (λ r ys m. (tt, (m.0, within-more (reach-within (gap xs)) m.1, reach-as (reach-more (gap xs) m.2) (λ us zs h. index-of m.0 us zs (record { mid = h.mid; first = h.first; second = some-listed shape.CloseBracket false r.0 m.0 _ _ h.second })))))
-      (λ rest q. complete-as (complete-behind (gap xs) q) (λ us zs h. let k = out h in (k.0, index-of k.0 us zs k.1)))
+      (λ rest q. complete-as (complete-after (gap xs) q) (λ us zs h. let k = out h in (k.0, index-of k.0 us zs k.1)))
 
   -- ---- arguments without brackets
 
@@ -307,17 +307,17 @@ module _ (nested : Form → Bool → Parser Tree) (ih : Viable nested) (turns : 
   going-on order.Keyword xs e = (refl, e)
   going-on order.Block xs e = absurd (cc)
 
-  comma-behind : {D : Rel} (xs ps : List Token) → Reach xs ps D → sees shape.Comma ps ≡ true → Reach xs (after ps) (Seq D (One shape.Comma))
-  comma-behind {D = D} xs ps r e = let s = seen shape.Comma ps e in reach-more r (subst (λ v. Reach v (after ps) (One shape.Comma)) (sym s.2) (reach-one shape.Comma s.0 (after ps) s.1))
+  comma-after : {D : Rel} (xs ps : List Token) → Reach xs ps D → sees shape.Comma ps ≡ true → Reach xs (after ps) (Seq D (One shape.Comma))
+  comma-after {D = D} xs ps r e = let s = seen shape.Comma ps e in reach-more r (subst (λ v. Reach v (after ps) (One shape.Comma)) (sym s.2) (reach-one shape.Comma s.0 (after ps) s.1))
 
   bare-from' : (n : ℕ) (keywords : Bool) (found : List (Argument Tree)) (xs : List Token) → Goes (bare_from nested turns free n keywords found xs) (λ r ys. Reach xs ys (Bare keywords r.0)) (λ rest. Completes xs rest (SomeBare keywords))
   unfolding bare_from
   bare-from' zero keywords found xs = refusing xs (bare-stands keywords)
   bare-from' (suc n) keywords found xs = bind (argument-goes keywords false xs) (λ rest r. complete-as r (one-bare keywords)) (λ a ps ra. choosing (goes_on (order_of a) ps)
       (λ e. let on = going-on (order_of a) ps e in
-      let rc = comma-behind xs ps ra on.1 in
+      let rc = comma-after xs ps ra on.1 in
       goes-as (bare-from' n (is_keyword (order_of a)) (found ++ a ∷ []) (after ps)) (λ r ys m. reach-as (reach-more rc m) (λ us zs h. bare-more keywords a r.0 us zs on.0 h))
-      (λ rest q. complete-as (complete-behind rc q) (λ us zs h. more-bare keywords a us zs on.0 h)))
+      (λ rest q. complete-as (complete-after rc q) (λ us zs h. more-bare keywords a us zs on.0 h)))
       (λ e. record { told = reach-as ra (last-bare keywords found a) }))
 
   pub bare-goes : (xs : List Token) → Goes (bare nested turns free xs) (λ r ys. Reach xs ys (Bare false r.0)) (λ rest. Completes xs rest (SomeBare false))
@@ -326,7 +326,7 @@ module _ (nested : Form → Bool → Parser Tree) (ih : Viable nested) (turns : 
 
   -- ---- blocks
 
-  -- names behind these, up to the closing bar
+  -- names after these, up to the closing bar
   abbrev NameRow : List (List ℕ) → Rel
   NameRow names us zs = (more : List PlacedName) × (z : Token) × BarNames more us (z ∷ zs) × Is shape.Pipe z × Fresh names more × AreDistinct (names_of more)
 
@@ -375,10 +375,10 @@ module _ (nested : Form → Bool → Parser Tree) (ih : Viable nested) (turns : 
   unfolding bar_names_from
   names-from zero names found xs = refusing xs (rest-stands names)
   names-from (suc n) names found xs = bind (name-goes names xs) (λ rest r. complete-as (complete-then r pipe-one) (last-name names)) (λ p ps rp. choosing (sees shape.Comma ps)
-      (λ e. let rc = comma-behind xs ps rp e in
-      goes-as (names-from n (noted names p.name) (found ++ p ∷ []) (after ps)) (λ r ys m. reach-as (reach-more rc m) (more-names names p.name)) (λ rest q. complete-as (complete-behind rc q) (more-names names p.name)))
+      (λ e. let rc = comma-after xs ps rp e in
+      goes-as (names-from n (noted names p.name) (found ++ p ∷ []) (after ps)) (λ r ys m. reach-as (reach-more rc m) (more-names names p.name)) (λ rest q. complete-as (complete-after rc q) (more-names names p.name)))
       (λ e. goes-as (answering (λ _. found ++ p ∷ []) (expecting shape.Pipe pipe-one ps)) (λ r ys m. reach-as (reach-more rp m) (λ us zs h. last-name names us zs (record { mid = h.mid; first = (p.name, h.first); second = h.second })))
-      (λ rest q. complete-as (complete-behind rp q) (λ us zs h. last-name names us zs (record { mid = h.mid; first = (p.name, h.first); second = h.second })))))
+      (λ rest q. complete-as (complete-after rp q) (λ us zs h. last-name names us zs (record { mid = h.mid; first = (p.name, h.first); second = h.second })))))
 
   abbrev InBars : Rel
   InBars us zs = (names : List PlacedName) × Bars names us zs
@@ -416,44 +416,44 @@ module _ (nested : Form → Bool → Parser Tree) (ih : Viable nested) (turns : 
   do-block-goes t ts is = block-goes ADo shape.Do shape.End (λ o c names body xs ps ys a b d e. (_, DoEnd _ _ _ _ _ _ _ a b d e, SomeDo _ _ _ _ _ a (DoEnd _ _ _ _ _ _ _ a b d e))) end-stands t ts is
 
   -- a block, if one stands
-  abbrev pub Behind : List Token → Option (Block Tree) → List Token → Type 0
-  Behind xs None ys = xs ≡ ys
-  Behind xs (Some b) ys = Ended xs ys (ABlock free)
+  abbrev pub After : List Token → Option (Block Tree) → List Token → Type 0
+  After xs None ys = xs ≡ ys
+  After xs (Some b) ys = Ended xs ys (ABlock free)
 
   abbrev Blocking : List Token → Outcome (Option (Block Tree)) → Type 0
-  Blocking xs o = Goes o (Behind xs) (λ rest. Completes xs rest (AnyEnd (ABlock free)))
+  Blocking xs o = Goes o (After xs) (λ rest. Completes xs rest (AnyEnd (ABlock free)))
 
   as-free : (f : Bool) → f ≡ true → (last : Token) (us zs : List Token) → ADo last us zs → ABlock f last us zs
   as-free f e last us zs h = subst (λ f. ABlock f last us zs) (sym e) (h.0, h.1)
 
-  do-behind-goes : (xs : List Token) → Blocking xs (optional_do nested turns free xs)
+  do-after-goes : (xs : List Token) → Blocking xs (optional_do nested turns free xs)
   unfolding optional_do
-  do-behind-goes [] = choosing (free && false) (λ e. absurd (let f = and-right free false e in cc)) (λ e. record { told = refl })
-  do-behind-goes (t ∷ ts) = choosing (free && same_shape (shape_of t.kind) shape.Do)
+  do-after-goes [] = choosing (free && false) (λ e. absurd (let f = and-right free false e in cc)) (λ e. record { told = refl })
+  do-after-goes (t ∷ ts) = choosing (free && same_shape (shape_of t.kind) shape.Do)
       (λ e. bind (do-block-goes t ts (same _ _ (and-right free _ e))) (λ rest q. complete-as q (λ us zs h. (h.0, as-free free (and-left _ _ e) h.0 us zs h.1)))
       (λ b ys m. record { told = (m.1.0, m.1.1, reach-as m.1.2 (as-free free (and-left _ _ e) m.1.0)) }))
       (λ e. record { told = refl })
 
   any-goes : (xs : List Token) → Blocking xs (any_block nested turns free xs)
   unfolding any_block
-  any-goes [] = do-behind-goes []
+  any-goes [] = do-after-goes []
   any-goes (t ∷ ts) = choosing (same_shape (shape_of t.kind) shape.OpenBrace)
       (λ e. bind (braces-go t ts (same _ _ e)) (λ rest q. q) (λ b ys m. record { told = m.1 }))
-      (λ e. do-behind-goes (t ∷ ts))
+      (λ e. do-after-goes (t ∷ ts))
 
-  -- no block may stand behind arguments that give one
+  -- no block may stand after arguments that give one
   abbrev pub MayBlock : Option (List (Argument Tree)) → Type 0
   MayBlock None = Unit {0}
   MayBlock (Some given) = passes_block given ≡ false
 
-  some-block-goes : (given : List (Argument Tree)) (xs : List Token) (passes : Bool) → passes_block given ≡ passes → Goes ((if passes then (λ tokens. Ok (None, tokens)) else any_block nested turns free) xs) (λ b ys. Behind xs b ys × (b ≡ None ⊎ MayBlock (Some given))) (λ rest. MayBlock (Some given) × Completes xs rest (AnyEnd (ABlock free)))
+  some-block-goes : (given : List (Argument Tree)) (xs : List Token) (passes : Bool) → passes_block given ≡ passes → Goes ((if passes then (λ tokens. Ok (None, tokens)) else any_block nested turns free) xs) (λ b ys. After xs b ys × (b ≡ None ⊎ MayBlock (Some given))) (λ rest. MayBlock (Some given) × Completes xs rest (AnyEnd (ABlock free)))
   some-block-goes given xs true e = record { told = (refl, inl refl) }
   some-block-goes given xs false e = goes-as (any-goes xs) (λ b ys m. (m, inr e)) (λ rest q. (e, q))
 
-  pub block-behind-goes : (given : Option (List (Argument Tree))) (xs : List Token) → Goes (optional_block nested turns free given xs) (λ b ys. Behind xs b ys × (b ≡ None ⊎ MayBlock given)) (λ rest. MayBlock given × Completes xs rest (AnyEnd (ABlock free)))
+  pub block-after-goes : (given : Option (List (Argument Tree))) (xs : List Token) → Goes (optional_block nested turns free given xs) (λ b ys. After xs b ys × (b ≡ None ⊎ MayBlock given)) (λ rest. MayBlock given × Completes xs rest (AnyEnd (ABlock free)))
   unfolding optional_block
-  block-behind-goes None xs = goes-as (any-goes xs) (λ b ys m. (m, inr tt)) (λ rest q. (tt, q))
-  block-behind-goes (Some given) xs = some-block-goes given xs (passes_block given) refl
+  block-after-goes None xs = goes-as (any-goes xs) (λ b ys m. (m, inr tt)) (λ rest q. (tt, q))
+  block-after-goes (Some given) xs = some-block-goes given xs (passes_block given) refl
 
   -- the `do` of a command, if one stands
   abbrev pub Commanded : List (Argument Tree) → Rel

@@ -36,9 +36,9 @@ unfolding program items.statements items.statements_from items.item methods.visi
 end-refused = refused-at (x ∷ token kind.OpenParen ∷ []) [] refl
 
 pub guard-refused : GuardRefused
-unfolding program items.statements items.statements_from items.item methods.visibility rules'.statement statements.statement statements.simple statements.value statements.from_operand statements.followed statements.follower_of statements.ending_of statements.is_begin statements.may_modify statements.modifier_behind statements.modifiers statements.modifiers_from statements.body statements.statements statements.body_from statements.ended shapes.begins_statement shapes.has_prefix shapes.is_negation shapes.prefix_of shapes.is_sign shapes.is_signed shapes.sees_number shapes.is_index shapes.operator_between parsed operators.tern_behind operators.powered operators.climb operators.climb_from operators.chosen operands.post operands.suffixes operands.suffixes_from operands.a_suffix operands.primary operands.called calls.optional_brackets calls.optional_block calls.any_block calls.optional_do branches.guards branches.guarded branches.rescues branches.rescues_from branches.otherwise_behind branches.ensure syntax.out-Node carrier.out shape_of same_shape
+unfolding program items.statements items.statements_from items.item methods.visibility rules'.statement statements.statement statements.simple statements.value statements.from_operand statements.followed statements.follower_of statements.ending_of statements.is_begin statements.may_modify statements.modifier_after statements.modifiers statements.modifiers_from statements.body statements.statements statements.body_from statements.ended shapes.begins_statement shapes.has_prefix shapes.is_negation shapes.prefix_of shapes.is_sign shapes.is_signed shapes.sees_number shapes.is_index shapes.operator_between parsed operators.tern_after operators.powered operators.climb operators.climb_from operators.chosen operands.post operands.suffixes operands.suffixes_from operands.a_suffix operands.primary operands.called calls.optional_brackets calls.optional_block calls.any_block calls.optional_do branches.guards branches.guarded branches.rescues branches.rescues_from branches.otherwise_after branches.ensure syntax.out-Node carrier.out shape_of same_shape
 guard-refused = refused-at (token kind.Begin ∷ x ∷ []) (token kind.Rescue ∷ []) refl
 
 pub loop-refused : LoopRefused
-unfolding program items.statements items.statements_from items.item methods.visibility rules'.statement statements.statement statements.simple statements.value statements.from_operand statements.followed statements.follower_of statements.ending_of statements.is_begin statements.may_modify statements.modifier_behind statements.modifiers statements.modifiers_from statements.body statements.statements statements.body_from statements.ended shapes.begins_statement shapes.has_prefix shapes.is_negation shapes.prefix_of shapes.is_sign shapes.is_signed shapes.sees_number shapes.is_index shapes.operator_between parsed operators.tern_behind operators.powered operators.climb operators.climb_from operators.chosen operands.post operands.suffixes operands.suffixes_from operands.a_suffix operands.primary operands.called calls.optional_brackets calls.optional_block calls.any_block calls.optional_do branches.guards branches.guarded branches.rescues branches.rescues_from branches.otherwise_behind branches.ensure syntax.out-Node carrier.out shape_of same_shape
+unfolding program items.statements items.statements_from items.item methods.visibility rules'.statement statements.statement statements.simple statements.value statements.from_operand statements.followed statements.follower_of statements.ending_of statements.is_begin statements.may_modify statements.modifier_after statements.modifiers statements.modifiers_from statements.body statements.statements statements.body_from statements.ended shapes.begins_statement shapes.has_prefix shapes.is_negation shapes.prefix_of shapes.is_sign shapes.is_signed shapes.sees_number shapes.is_index shapes.operator_between parsed operators.tern_after operators.powered operators.climb operators.climb_from operators.chosen operands.post operands.suffixes operands.suffixes_from operands.a_suffix operands.primary operands.called calls.optional_brackets calls.optional_block calls.any_block calls.optional_do branches.guards branches.guarded branches.rescues branches.rescues_from branches.otherwise_after branches.ensure syntax.out-Node carrier.out shape_of same_shape
 loop-refused = refused-at (token kind.Begin ∷ token kind.End ∷ []) (token kind.While ∷ x ∷ []) refl

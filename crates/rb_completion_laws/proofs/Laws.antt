@@ -55,18 +55,18 @@ cut_by last (Err (t ∷ ts)) = Bad t.span.start
 cut_by last (Err []) = TooDeep last
 cut_by last (Ok t) = TooDeep last
 
--- where the tokens end behind one that nests too deep
-cut-placed-by : (tokens some behind : List Token) (last at : ℕ) (r : Result Tree (List Token)) → tokens ≡ some ++ behind → ((rest : List Token) → r ≡ Err rest → Front some rest) → cut_by last r ≡ Bad at → Placed tokens at
-cut-placed-by tokens some behind last at (Ok t) w h e = absurd (cc)
-cut-placed-by tokens some behind last at (Err []) w h e = absurd (cc)
-cut-placed-by tokens some behind last at (Err (t ∷ ts)) w h e =
+-- where the tokens end after one that nests too deep
+cut-placed-by : (tokens some after : List Token) (last at : ℕ) (r : Result Tree (List Token)) → tokens ≡ some ++ after → ((rest : List Token) → r ≡ Err rest → Front some rest) → cut_by last r ≡ Bad at → Placed tokens at
+cut-placed-by tokens some after last at (Ok t) w h e = absurd (cc)
+cut-placed-by tokens some after last at (Err []) w h e = absurd (cc)
+cut-placed-by tokens some after last at (Err (t ∷ ts)) w h e =
     let f = h (t ∷ ts) refl in
     let is : t.span.start ≡ at = cc in
-    (f.0, t ∷ (ts ++ behind), w ∙ ap (λ us. us ++ behind) f.1 ∙ append_assoc f.0 (t ∷ ts) behind, sym is, f.2)
+    (f.0, t ∷ (ts ++ after), w ∙ ap (λ us. us ++ after) f.1 ∙ append_assoc f.0 (t ∷ ts) after, sym is, f.2)
 
-cut-placed : (tokens some behind : List Token) (last at : ℕ) → tokens ≡ some ++ behind → cut last some ≡ Bad at → Placed tokens at
+cut-placed : (tokens some after : List Token) (last at : ℕ) → tokens ≡ some ++ after → cut last some ≡ Bad at → Placed tokens at
 unfolding cut
-cut-placed tokens some behind last at w e = cut-placed-by tokens some behind last at (program (length some + 2) some) w (λ rest f. front (length some + 2) some rest f) e
+cut-placed tokens some after last at w e = cut-placed-by tokens some after last at (program (length some + 2) some) w (λ rest f. front (length some + 2) some rest f) e
 
 parsed-by : (tokens : List Token) (deep : Option ℕ) (at : ℕ) → (elim deep as (λ o. Result Tree ParseEnd) [ None ↦ whole tokens | Some k ↦ Err (cut (token_start (slice_get tokens k)) (take (k + 1) tokens)) ]) ≡ Err (Bad at) → Placed tokens at
 parsed-by tokens None at e = whole-placed tokens at e
@@ -89,10 +89,10 @@ begun E tokens rest c =
     let first = (c [] refl).swapped in (
       first.0,
       first.1,
-      λ behind clear.
-          let d = c behind clear in
+      λ after clear.
+          let d = c after clear in
           let fronts : d.swapped.0 ≡ first.0 = append_cancel_right d.swapped.0 first.0 rest (sym d.swapped.1 ∙ first.1) in
-          (d.more, subst (λ us. E us behind) (d.swapped.2 ∙ ap (λ f. f ++ d.more) fronts) d.derives),
+          (d.more, subst (λ us. E us after) (d.swapped.2 ∙ ap (λ f. f ++ d.more) fronts) d.derives),
     )
 
 pub terms-begin : TermsBegin

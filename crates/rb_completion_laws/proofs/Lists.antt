@@ -1,4 +1,4 @@
--- What stands behind the elements of lists can be completed.
+-- What stands after the elements of lists can be completed.
 use Rattle.std.proofs.Common.{◌≡◌, Bool, true, false, ◌&&◌, List, [], ◌∷◌, Option, Some, None, refl, sym, subst}
 use Rattle.srb_terms.specs.declared.span.Span.{Span}
 use Rattle.rb_tree.specs.Tokens.{shape_of, same_shape}
@@ -9,7 +9,7 @@ use Rattle.rb_tree.specs.declared.token.Shape.TheVariants as shape
 use Rattle.rb_expr.specs.declared.lists.Order.{Order}
 use Rattle.rb_expr.specs.declared.lists.Order.TheVariants as order
 use Rattle.rb_expr.specs.Reading.{Outcome, sees, skip_separators}
-use Rattle.rb_expr.specs.Lists.{is_block, takes_comma, closed, behind_comma, behind_element, behind_last, behind_argument}
+use Rattle.rb_expr.specs.Lists.{is_block, takes_comma, closed, after_comma, after_element, after_last, after_argument}
 use Rattle.rb_rules.specs.Tokens.{Is}
 use Rattle.rb_rules.specs.Grammar.{Gap}
 use Rattle.rb_rules.specs.Grammar.Gap.{Closed}
@@ -30,7 +30,7 @@ pub brace-one : Stands (One shape.CloseBrace)
 unfolding shape_of
 brace-one = one-stands kind.CloseBrace shape.CloseBrace refl (λ zs. refl)
 
--- the closing bracket, perhaps behind a comma
+-- the closing bracket, perhaps after a comma
 abbrev pub ClosedBy : Shape → Token → Rel
 ClosedBy closer last us zs = Is closer last × Ends (takes_comma closer) us (last ∷ zs)
 
@@ -53,49 +53,49 @@ closed-ends : (closer : Shape) → Stands (One closer) → (xs : List Token) →
 closed-ends closer one xs = closingly (closed-goes closer one xs) (λ last us zs h. (h.second.0, ends-of _ _ _ (before-last h)))
 
 -- the closing bracket, or a comma and separators
-abbrev pub Behind : Shape → List Token → Option Span → List Token → Type 0
-Behind closer xs (Some place) ys = Ended xs ys (ClosedBy closer)
-Behind closer xs None ys = Reach xs ys (Seq (One shape.Comma) Gap)
+abbrev pub After : Shape → List Token → Option Span → List Token → Type 0
+After closer xs (Some place) ys = Ended xs ys (ClosedBy closer)
+After closer xs None ys = Reach xs ys (Seq (One shape.Comma) Gap)
 
-there-behind : (closer : Shape) (xs : List Token) (o : Option Span) (ys : List Token) → There o × Ended xs ys (ClosedBy closer) → Behind closer xs o ys
-there-behind closer xs (Some place) ys h = h.1
-there-behind closer xs None ys h = absurd h.0
+there-after : (closer : Shape) (xs : List Token) (o : Option Span) (ys : List Token) → There o × Ended xs ys (ClosedBy closer) → After closer xs o ys
+there-after closer xs (Some place) ys h = h.1
+there-after closer xs None ys h = absurd h.0
 
-as-behind : {closer : Shape} {xs : List Token} {o : Outcome (Option Span)} → Closing xs o There (ClosedBy closer) → Goes o (Behind closer xs) (λ rest. Completes xs rest (AnyEnd (ClosedBy closer)))
-as-behind h = goes-as h (there-behind _ _) (λ rest r. r)
+as-after : {closer : Shape} {xs : List Token} {o : Outcome (Option Span)} → Closing xs o There (ClosedBy closer) → Goes o (After closer xs) (λ rest. Completes xs rest (AnyEnd (ClosedBy closer)))
+as-after h = goes-as h (there-after _ _) (λ rest r. r)
 
 comma-closed : (closer : Shape) (t : Token) (us ps zs : List Token) → Is shape.Comma t → takes_comma closer ≡ true → Gap us ps → Gap ps zs → Ends (takes_comma closer) (t ∷ us) zs
 comma-closed closer t us ps zs is e g h = subst (λ b. Ends b (t ∷ us) zs) (sym e) (LastComma _ _ _ is (gap-more g h))
 
-comma-goes : (closer : Shape) → Stands (One closer) → (t : Token) (ts : List Token) → Is shape.Comma t → Goes (behind_comma closer (skip_separators ts)) (Behind closer (t ∷ ts)) (λ rest. Completes (t ∷ ts) rest (AnyEnd (ClosedBy closer)))
-unfolding behind_comma
+comma-goes : (closer : Shape) → Stands (One closer) → (t : Token) (ts : List Token) → Is shape.Comma t → Goes (after_comma closer (skip_separators ts)) (After closer (t ∷ ts)) (λ rest. Completes (t ∷ ts) rest (AnyEnd (ClosedBy closer)))
+unfolding after_comma
 comma-goes closer one t ts is = choosing (takes_comma closer && sees closer (skip_separators ts))
-    (λ e. as-behind (headed-closing t (closingly (parted-closing (closed-goes closer one (skip_separators ts))) (λ last us zs h.
+    (λ e. as-after (headed-closing t (closingly (parted-closing (closed-goes closer one (skip_separators ts))) (λ last us zs h.
     (h.second.second.0, comma-closed closer t us h.mid (last ∷ zs) is (and-left _ _ e) h.first (before-last h.second))))))
     (λ e. record { told = reach-more (reach-one shape.Comma t ts is) (gap ts) })
 
-pub element-goes : (closer : Shape) → Stands (One closer) → (xs : List Token) → Goes (behind_element closer xs) (Behind closer xs) (λ rest. Completes xs rest (AnyEnd (ClosedBy closer)))
-unfolding behind_element
-element-goes closer one [] = as-behind (closed-ends closer one [])
+pub element-goes : (closer : Shape) → Stands (One closer) → (xs : List Token) → Goes (after_element closer xs) (After closer xs) (λ rest. Completes xs rest (AnyEnd (ClosedBy closer)))
+unfolding after_element
+element-goes closer one [] = as-after (closed-ends closer one [])
 element-goes closer one (t ∷ ts) = choosing (same_shape (shape_of t.kind) shape.Comma)
     (λ e. comma-goes closer one t ts (same _ _ e))
-    (λ e. as-behind (closed-ends closer one (t ∷ ts)))
+    (λ e. as-after (closed-ends closer one (t ∷ ts)))
 
-last-goes : (closer : Shape) → Stands (One closer) → (xs : List Token) → Closing xs (behind_last closer xs) There (ClosedBy closer)
-unfolding behind_last
+last-goes : (closer : Shape) → Stands (One closer) → (xs : List Token) → Closing xs (after_last closer xs) There (ClosedBy closer)
+unfolding after_last
 last-goes closer one [] = choosing (takes_comma closer && false) (λ e. absurd (let f = and-right (takes_comma closer) false e in cc)) (λ e. closed-ends closer one [])
 last-goes closer one (t ∷ ts) = choosing (takes_comma closer && same_shape (shape_of t.kind) shape.Comma)
     (λ e. headed-closing t (closingly (closed-goes closer one ts) (λ last us zs h.
     (h.second.0, comma-closed closer t us us (last ∷ zs) (same _ _ (and-right (takes_comma closer) _ e)) (and-left _ _ e) (Closed us) (before-last h)))))
     (λ e. closed-ends closer one (t ∷ ts))
 
--- behind an argument of this order
-abbrev pub BehindArgument : Shape → Order → List Token → Option Span → List Token → Type 0
-BehindArgument closer given xs (Some place) ys = Ended xs ys (ClosedBy closer)
-BehindArgument closer given xs None ys = Reach xs ys (Seq (One shape.Comma) Gap) × (is_block given ≡ false)
+-- after an argument of this order
+abbrev pub AfterArgument : Shape → Order → List Token → Option Span → List Token → Type 0
+AfterArgument closer given xs (Some place) ys = Ended xs ys (ClosedBy closer)
+AfterArgument closer given xs None ys = Reach xs ys (Seq (One shape.Comma) Gap) × (is_block given ≡ false)
 
-pub behind-argument-goes : (closer : Shape) → Stands (One closer) → (given : Order) (xs : List Token) → Goes (behind_argument closer given xs) (BehindArgument closer given xs) (λ rest. Completes xs rest (AnyEnd (ClosedBy closer)))
-unfolding behind_argument
-behind-argument-goes closer one order.Block xs = goes-as (last-goes closer one xs) (elim [ Some place ↦ λ ys h. h.1 | None ↦ λ ys h. absurd h.0 ]) (λ rest r. r)
-behind-argument-goes closer one order.Positional xs = goes-as (element-goes closer one xs) (elim [ Some place ↦ λ ys h. h | None ↦ λ ys h. (h, refl) ]) (λ rest r. r)
-behind-argument-goes closer one order.Keyword xs = goes-as (element-goes closer one xs) (elim [ Some place ↦ λ ys h. h | None ↦ λ ys h. (h, refl) ]) (λ rest r. r)
+pub after-argument-goes : (closer : Shape) → Stands (One closer) → (given : Order) (xs : List Token) → Goes (after_argument closer given xs) (AfterArgument closer given xs) (λ rest. Completes xs rest (AnyEnd (ClosedBy closer)))
+unfolding after_argument
+after-argument-goes closer one order.Block xs = goes-as (last-goes closer one xs) (elim [ Some place ↦ λ ys h. h.1 | None ↦ λ ys h. absurd h.0 ]) (λ rest r. r)
+after-argument-goes closer one order.Positional xs = goes-as (element-goes closer one xs) (elim [ Some place ↦ λ ys h. h | None ↦ λ ys h. (h, refl) ]) (λ rest r. r)
+after-argument-goes closer one order.Keyword xs = goes-as (element-goes closer one xs) (elim [ Some place ↦ λ ys h. h | None ↦ λ ys h. (h, refl) ]) (λ rest r. r)

@@ -29,7 +29,7 @@ use Rattle.rb_rules.specs.Grammar.Owner.{Other, Own}
 use Rattle.rb_rules.specs.Grammar.DerivesMethod.{Def}
 use Rattle.rb_rules.specs.Grammar.DerivesDeclaration.{Method, VisibleMethod}
 use Rattle.rb_grammar.proofs.Parameters.{Links}
-use Rattle.rb_completion_laws.proofs.Steps.{Rel, Reach, Completes, Stands, Seq, seq-stands, reach-as, reach-more, reach-this, complete-as, complete-then, complete-behind, Goes, bind, goes-as, choosing, Plain, plainly, seq, done, refusing, answering, headed, One, new_token, one-stands, expecting, if-seen, Perhaps, nothing, something, before-one}
+use Rattle.rb_completion_laws.proofs.Steps.{Rel, Reach, Completes, Stands, Seq, seq-stands, reach-as, reach-more, reach-this, complete-as, complete-then, complete-after, Goes, bind, goes-as, choosing, Plain, plainly, seq, done, refusing, answering, headed, One, new_token, one-stands, expecting, if-seen, Perhaps, nothing, something, before-one}
 use Rattle.rb_completion_laws.proofs.Branches.{end-stands, guarded-stands}
 use Rattle.rb_completion_laws.proofs.Forms.{viable, a-guarded-goes}
 use Rattle.rb_completion_laws.proofs.Parameters.{assign-one, Parameters, parameters-stand, parameters-go}
@@ -127,9 +127,9 @@ own-goes xs = if-seen shape.SelfWord (λ ts. _) xs
 abbrev AGuarded : Rel
 AGuarded us zs = (g : Guarded Tree) × DerivesGuarded true g us zs
 
--- what is read behind a body
-abbrev behind_body : ℕ → Outcome Tree → Outcome (Guarded Tree)
-behind_body d o = and_then o (λ body. λ ps. and_then (branches.rescues (parsed (suc d)) (suc d) true ps) (λ clauses. λ qs. and_then (branches.otherwise_behind (parsed (suc d)) (suc d) true clauses qs) (λ other. λ rs.
+-- what is read after a body
+abbrev after_body : ℕ → Outcome Tree → Outcome (Guarded Tree)
+after_body d o = and_then o (λ body. λ ps. and_then (branches.rescues (parsed (suc d)) (suc d) true ps) (λ clauses. λ qs. and_then (branches.otherwise_after (parsed (suc d)) (suc d) true clauses qs) (λ other. λ rs.
     and_then (branches.ensure (parsed (suc d)) (suc d) true rs) (λ last. λ us. Ok (record { body = body; rescues = clauses; otherwise = other; ensure = last }, us)))))
 
 -- one more separator before a body is passed over
@@ -137,11 +137,11 @@ skips : (d : ℕ) (s : Token) (ws : List Token) → Is shape.Separator s → gua
 unfolding guarded branches.guarded parsed statements.body same_shape
 skips d s ws is =
     let separator : same_shape (shape_of s.kind) shape.Separator ≡ true = true_same the_type _ _ is in
-    ap (λ b. behind_body d (statements.statements (parsed d) d true false (if b then skip_separators ws else s ∷ ws))) separator
+    ap (λ b. after_body d (statements.statements (parsed d) d true false (if b then skip_separators ws else s ∷ ws))) separator
 
-guarded-behind : (d : ℕ) (ws ys : List Token) → Links ws ys → Plain ws (guarded (suc d) ys) AGuarded
-guarded-behind d ws ys (inl e) = subst (λ us. Plain ws (guarded (suc d) us) AGuarded) (sym e) (a-guarded-goes (suc d) ws)
-guarded-behind d ws ys (inr h) = subst (λ us. Plain ws (guarded (suc d) us) AGuarded) (sym h.2) (subst (λ o. Plain ws o AGuarded) (sym (skips d h.0 ws h.1)) (a-guarded-goes (suc d) ws))
+guarded-after : (d : ℕ) (ws ys : List Token) → Links ws ys → Plain ws (guarded (suc d) ys) AGuarded
+guarded-after d ws ys (inl e) = subst (λ us. Plain ws (guarded (suc d) us) AGuarded) (sym e) (a-guarded-goes (suc d) ws)
+guarded-after d ws ys (inr h) = subst (λ us. Plain ws (guarded (suc d) us) AGuarded) (sym h.2) (subst (λ o. Plain ws o AGuarded) (sym (skips d h.0 ws h.1)) (a-guarded-goes (suc d) ws))
 
 -- what stands before the body
 abbrev AHead : Rel
@@ -159,8 +159,8 @@ unfolding method_head
 head-goes d shown start xs =
     let n = seq-stands name-stands parameters-stand in
     let o = seq-stands owner-stands n in
-    bind (expecting shape.Def def-one xs) (λ rest q. complete-then q o) (λ _ ks rd. bind (own-goes ks) (λ rest q. complete-behind rd (complete-then q n)) (λ own' ps ro. bind (name-goes ps) (λ rest q. complete-behind rd (complete-behind ro (complete-then q parameters-stand)))
-    (λ name qs rn. bind (parameters-go d qs) (λ rest q. complete-behind rd (complete-behind ro (complete-behind rn q))) (λ found ys m. record { told = (m.0, m.1, reach-more rd (reach-more ro (reach-more rn m.2))) }))))
+    bind (expecting shape.Def def-one xs) (λ rest q. complete-then q o) (λ _ ks rd. bind (own-goes ks) (λ rest q. complete-after rd (complete-then q n)) (λ own' ps ro. bind (name-goes ps) (λ rest q. complete-after rd (complete-after ro (complete-then q parameters-stand)))
+    (λ name qs rn. bind (parameters-go d qs) (λ rest q. complete-after rd (complete-after ro (complete-after rn q))) (λ found ys m. record { told = (m.0, m.1, reach-more rd (reach-more ro (reach-more rn m.2))) }))))
 
 abbrev AMethod : Option Visibility → Option Token → Rel
 AMethod shown front us zs = (t : Tree) × DerivesMethod shown front t us zs
@@ -176,8 +176,8 @@ unfolding defined
 defined-goes d shown front start xs =
     let e = seq-stands (guarded-stands (parsed d) (viable d) d true) end-stands in
     bind (head-goes (suc d) shown start xs) (λ rest q. complete-as (complete-then q e) (method-made shown front)) (λ h ps m.
-    goes-as (seq (guarded-behind d m.0 ps m.1) end-stands (λ b qs. answering _ (expecting shape.End end-stands qs)))
-    (λ t ys k. reach-as (reach-more m.2 k) (method-made shown front)) (λ rest q. complete-as (complete-behind m.2 q) (method-made shown front)))
+    goes-as (seq (guarded-after d m.0 ps m.1) end-stands (λ b qs. answering _ (expecting shape.End end-stands qs)))
+    (λ t ys k. reach-as (reach-more m.2 k) (method-made shown front)) (λ rest q. complete-as (complete-after m.2 q) (method-made shown front)))
 
 -- ---- the visibility
 

@@ -34,9 +34,9 @@ use Rattle.rb_expr.specs.Operands as spec
 use Rattle.rb_expr.specs.Operands.{number_by, number, touching, signed, unraised, negative, top_constant, word_by, word, call_of, interpolation, pieces_from, pieces, called, yielding, super_call, elements_from, elements, array_from, array, label_pair, arrow_pair, a_pair, pairs_from, pairs, hash_from, hash, parens, primary_by, primary}
 use Rattle.rb_rules.specs.Tokens.{Is, IsAny, StartsWith, Touches, IsConstant, NUMBERS}
 use Rattle.rb_rules.specs.Forms.{Inside, LeavesBlock, is_begin}
-use Rattle.rb_rules.specs.Grammar.{Gap, IsRow, SIGNS, DerivesBody, DerivesBrackets, DerivesBlock, DerivesBlockBehind, DerivesPieces, DerivesElements, DerivesPairs, DerivesPair}
+use Rattle.rb_rules.specs.Grammar.{Gap, IsRow, SIGNS, DerivesBody, DerivesBrackets, DerivesBlock, DerivesBlockAfter, DerivesPieces, DerivesElements, DerivesPairs, DerivesPair}
 use Rattle.rb_rules.specs.Grammar.DerivesBrackets.{NoBrackets}
-use Rattle.rb_rules.specs.Grammar.DerivesBlockBehind.{NoBlock, SomeBlock}
+use Rattle.rb_rules.specs.Grammar.DerivesBlockAfter.{NoBlock, SomeBlock}
 use Rattle.rb_rules.specs.Grammar.DerivesPieces.{NoPiece, MorePieces}
 use Rattle.rb_rules.specs.Grammar.DerivesElements.{LastElement, MoreElements}
 use Rattle.rb_rules.specs.Grammar.DerivesPairs.{LastPair, MorePairs}
@@ -46,12 +46,12 @@ use Rattle.rb_rules.specs.Grammar.DerivesCallee.{Own, YieldWord, SuperWord}
 use Rattle.rb_rules.specs.Grammar.DerivesPrimary.{WholeNumber, FloatNumber, SignedWhole, SignedFloat, String, SymbolName, InstanceName, ConstantName, FromTop, SelfPlace, NilPlace, TruePlace, FalsePlace, NameAlone, CallWithBrackets, CallWithBlock, Yields, Supers, EmptyArray, SomeArray, EmptyHash, SomeHash, InParens}
 use Rattle.rb_grammar.proofs.Steps.{same, shown, Within, within-self, within-token, within-more, identifier, constant, instance_variable, label, symbol, whole, float, text}
 use Rattle.rb_grammar.proofs.Lists.{and-left, and-right}
-use Rattle.rb_completion_laws.proofs.Steps.{Rel, This, Fits, Reach, Completes, Stands, Seq, stands-as, seq-stands, reach-as, reach-more, reach-this, reach-self, reach-token, reach-within, reach-headed, reach-fits, complete-as, complete-then, complete-behind, complete-new, complete-token, complete-fits, Goes, bind, goes-as, choosing, Plain, plainly, seq, refusing, answering, headed-closing, One, one-stands, expecting, naming, Ended, AnyEnd, Closing, stands-end, seq-closing, closingly, parted-closing, Last, last-stands, closing, before-last, before-one, led, out, worded-known, named-known, follow-words, follow-name, caught, fits-start, fits-before}
+use Rattle.rb_completion_laws.proofs.Steps.{Rel, This, Fits, Reach, Completes, Stands, Seq, stands-as, seq-stands, reach-as, reach-more, reach-this, reach-self, reach-token, reach-within, reach-headed, reach-fits, complete-as, complete-then, complete-after, complete-new, complete-token, complete-fits, Goes, bind, goes-as, choosing, Plain, plainly, seq, refusing, answering, headed-closing, One, one-stands, expecting, naming, Ended, AnyEnd, Closing, stands-end, seq-closing, closingly, parted-closing, Last, last-stands, closing, before-last, before-one, led, out, worded-known, named-known, follow-words, follow-name, caught, fits-start, fits-before}
 use Rattle.rb_completion_laws.proofs.Begins.{primary-begins}
 use Rattle.rb_completion_laws.proofs.Viable.{Viable, ABody, bodied, ATerm, APrimary, Like, LikePrimary, Signs, Uses, ends-so, SPrimary, signed-stands, body-stands, term-stands}
 use Rattle.rb_completion_laws.proofs.Branches.{branch-goes, repeated-goes, choice-goes, guards-go}
 use Rattle.rb_completion_laws.proofs.Lists.{paren-one, bracket-one, brace-one, ClosedBy, closed-stands, element-goes}
-use Rattle.rb_completion_laws.proofs.Calls.{label-one, Given, given-goes, SomeBrackets, InBrackets, ABlock, Behind, MayBlock, block-behind-goes}
+use Rattle.rb_completion_laws.proofs.Calls.{label-one, Given, given-goes, SomeBrackets, InBrackets, ABlock, After, MayBlock, block-after-goes}
 
 -- ---- operands with their last token, and what they may be used as
 
@@ -166,7 +166,7 @@ numbered n ns e = ⊎_elim (λ k. inl (same _ _ k)) (λ k. inr (inl (same _ _ k)
     either true b e = inl refl
     either false b e = inr e
 
--- a sign and its number, or a refusal behind the sign
+-- a sign and its number, or a refusal after the sign
 abbrev SignedNumber : Token → List Token → Tree → List Token → Type 0
 SignedNumber s ss v ys = (n : Token) × (ss ≡ n ∷ ys) × Touches s n × IsAny NUMBERS n × Compound v
 
@@ -181,17 +181,17 @@ touching-goes how s (n ∷ ns) = choosing (is_signed s.span (n ∷ ns))
     (λ e. record { told = refl })
 
 -- a number that touches this sign
-abbrev number_behind : Token → Token
-number_behind s = record { kind = kind.Whole []; span = record { start = s.span.end; end = s.span.end } }
+abbrev number_after : Token → Token
+number_after s = record { kind = kind.Whole []; span = record { start = s.span.end; end = s.span.end } }
 
 complete-sign : (free : Bool) (how : Sign) (s : Token) (ss : List Token) → IsRow SIGNS (shape_of s.kind) how → Completes (s ∷ ss) ss (AnyEnd (APrimary free))
 unfolding shape_of
 complete-sign free how s ss row zs c = record {
-  whole = s ∷ number_behind s ∷ zs;
-  more = number_behind s ∷ zs;
+  whole = s ∷ number_after s ∷ zs;
+  more = number_after s ∷ zs;
   swapped = (s ∷ [], refl, refl);
   fits = Fits.Alike _ _ _;
-  derives = (number_behind s, signed-derives free how s (number_behind s) zs row refl (inr (caught (shape.Power ∷ []) (refl, tt) zs c)) (inl refl));
+  derives = (number_after s, signed-derives free how s (number_after s) zs row refl (inr (caught (shape.Power ∷ []) (refl, tt) zs c)) (inl refl));
 }
 
 signed-number-complete : (free : Bool) (how : Sign) (s : Token) (ss : List Token) → IsRow SIGNS (shape_of s.kind) how → (v : Tree) (ys : List Token) → SignedNumber s ss v ys → Completes (s ∷ ss) ys (AnyEnd (APrimary free))
@@ -221,19 +221,19 @@ not-next s [] e h = h
 not-next s (t ∷ ts) e (inl is) = let shown' = shown s t ts is in absurd (cc)
 not-next s (t ∷ ts) e (inr h) = h
 
-behind-sign : (free : Bool) (how : Sign) (s : Token) (ss rest : List Token) → IsRow SIGNS (shape_of s.kind) how → rest ≡ ss → Completes (s ∷ ss) rest (AnyEnd (APrimary free))
-behind-sign free how s ss rest row e = subst (λ r. Completes (s ∷ ss) r (AnyEnd (APrimary free))) (sym e) (complete-sign free how s ss row)
+after-sign : (free : Bool) (how : Sign) (s : Token) (ss rest : List Token) → IsRow SIGNS (shape_of s.kind) how → rest ≡ ss → Completes (s ∷ ss) rest (AnyEnd (APrimary free))
+after-sign free how s ss rest row e = subst (λ r. Completes (s ∷ ss) r (AnyEnd (APrimary free))) (sym e) (complete-sign free how s ss row)
 
 plus-goes : (free : Bool) (s : Token) (ss : List Token) → Is shape.Plus s → Primed free (s ∷ ss) (signed sign.Plus (s ∷ ss))
 unfolding signed
 plus-goes free s ss is = goes-as (touching-goes sign.Plus s ss)
     (λ v ys h. signed-number-read free shape.Plus refl sign.Plus s ss is (inr (inl (is, refl))) v ys h (λ zs f. inl refl))
-    (λ rest e. sign-complete free shape.Plus refl s ss rest is (behind-sign free sign.Plus s ss rest (inr (inl (is, refl))) e))
+    (λ rest e. sign-complete free shape.Plus refl s ss rest is (after-sign free sign.Plus s ss rest (inr (inl (is, refl))) e))
 
 minus-goes : (free : Bool) (s : Token) (ss : List Token) → Is shape.Minus s → Primed free (s ∷ ss) (negative (s ∷ ss))
 unfolding negative signed unraised
 minus-goes free s ss is = bind (touching-goes sign.Minus s ss)
-    (λ rest e. sign-complete free shape.Minus refl s ss rest is (behind-sign free sign.Minus s ss rest (inl (is, refl)) e))
+    (λ rest e. sign-complete free shape.Minus refl s ss rest is (after-sign free sign.Minus s ss rest (inl (is, refl)) e))
     (λ v ys h. choosing (sees shape.Power ys)
     (λ e. record { told = sign-complete free shape.Minus refl s ss ys is (signed-number-complete free sign.Minus s ss (inl (is, refl)) v ys h) })
     (λ e. record { told = signed-number-read free shape.Minus refl sign.Minus s ss is (inl (is, refl)) v ys h (λ zs f. inr (fits-start (shape.Power ∷ []) (refl, tt) ys zs f (not-next shape.Power ys e))) }))
@@ -265,7 +265,7 @@ constant-one = one-stands (kind.Constant []) shape.Constant refl (λ zs. refl)
 top-goes : (free : Bool) (c : Token) (cs : List Token) → Is shape.Scope c → Primed free (c ∷ cs) (top_constant (c ∷ cs))
 unfolding top_constant
 top-goes free c cs is = compound free shape.Scope refl c cs is (follow-name shape.Constant (λ ps. Reach (c ∷ cs) ps (This c)) _ cs (reach-this c cs)
-    (λ r. complete-as (complete-behind r (complete-new cs constant-one)) (λ us zs h. (h.second.0, made us zs h.second.0 (constant h.second.0 h.second.1) (record { mid = h.mid; first = h.first; second = h.second.2 }))))
+    (λ r. complete-as (complete-after r (complete-new cs constant-one)) (λ us zs h. (h.second.0, made us zs h.second.0 (constant h.second.0 h.second.1) (record { mid = h.mid; first = h.first; second = h.second.2 }))))
     (λ t ts con r. record { told = (ends-so _ _ (rolls-TopConstant _ _ _), (t, reach-within r, reach-as (reach-more r (reach-this t ts)) (λ us zs h. made us zs t (constant t con) h))) }))
   where
     made : (us zs : List Token) (t : Token) → IsConstant t (words_of t.kind) → Seq (This c) (This t) us zs → APrimary free t us zs
@@ -317,11 +317,11 @@ module _ (nested : Form → Bool → Parser Tree) (ih : Viable nested) (turns : 
   pieces-by start end before zero found xs = refusing xs (no-pieces before)
   pieces-by start end before (suc n) found xs = choosing (sees shape.Interpolation xs)
       (λ e. bind (code-goes xs) (λ rest r. complete-as (complete-then r whole-text) (one-piece before)) (λ p ps rp.
-      follow-words shape.Text (λ ps. Reach xs ps APiece) _ ps rp (λ r. complete-as (complete-behind r (complete-new _ whole-text)) (one-piece before)) (λ u us is r.
+      follow-words shape.Text (λ ps. Reach xs ps APiece) _ ps rp (λ r. complete-as (complete-after r (complete-new _ whole-text)) (one-piece before)) (λ u us is r.
       let ru = reach-more r (reach-this u us) in
       goes-as (pieces-by start u.span.end u n ((found ++ p ∷ []) ++ piece.Words (words_of u.kind) u.span ∷ []) us)
       (λ v ys m. (m.0, m.1, within-token before (within-more (reach-within r) m.2), reach-as (reach-more ru m.3) (λ vs zs h. pieces-more before u m.1 vs zs is h)))
-      (λ rest q. complete-as (complete-behind ru q) (λ vs zs h. (h.second.0, pieces-more before u h.second.0 vs zs is (record { mid = h.mid; first = h.first; second = h.second.1 })))))))
+      (λ rest q. complete-as (complete-after ru q) (λ vs zs h. (h.second.0, pieces-more before u h.second.0 vs zs is (record { mid = h.mid; first = h.first; second = h.second.1 })))))))
       (λ e. record { told = (ends-so _ _ (rolls-Text _ _), before, within-self _, reach-as (reach-self xs) (λ us zs h. ([], subst (λ v. DerivesPieces [] before before us v) h (NoPiece _ _)))) })
 
   text-goes : (t : Token) (ts : List Token) → Is shape.Text t → Primed free (t ∷ ts) (spec.text nested turns free (t ∷ ts))
@@ -339,7 +339,7 @@ module _ (nested : Form → Bool → Parser Tree) (ih : Viable nested) (turns : 
   IsCall (Some given) b = Unit {0}
 
   abbrev pub Tail : Token → Token → Rel
-  Tail n last us zs = (given : Option (List (Argument Tree))) × (b : Option (Block Tree)) × (middle : Token) × (ps : List Token) × DerivesBrackets given n middle us ps × DerivesBlockBehind free b middle last ps zs × (b ≡ None ⊎ LeavesBlock given) × IsCall given b
+  Tail n last us zs = (given : Option (List (Argument Tree))) × (b : Option (Block Tree)) × (middle : Token) × (ps : List Token) × DerivesBrackets given n middle us ps × DerivesBlockAfter free b middle last ps zs × (b ≡ None ⊎ LeavesBlock given) × IsCall given b
 
   brackets-tail : (n last : Token) (us zs : List Token) → SomeBrackets nested ih turns free last us zs → Tail n last us zs
   brackets-tail n last us zs h = (Some h.0, None, last, zs, h.1 n, NoBlock _ _ _, inl refl, tt)
@@ -350,12 +350,12 @@ module _ (nested : Form → Bool → Parser Tree) (ih : Viable nested) (turns : 
   both-tail : (given : List (Argument Tree)) → MayBlock nested ih turns free (Some given) → (n middle last : Token) (us zs : List Token) → Seq (InBrackets nested ih turns free given middle) (ABlock nested ih turns free free last) us zs → Tail n last us zs
   both-tail given may n middle last us zs h = (Some h.first.0, Some h.second.0, middle, h.mid, h.first.1 n, SomeBlock _ _ _ _ _ _ h.second.1, inr (h.first.2 may), tt)
 
-  -- what is made of a name and what stands behind it
+  -- what is made of a name and what stands after it
   module _ {R : Type 0} (mk : Option (List (Argument Tree)) → ℕ → Option (Block Tree) → R) (T : R → Type 0) (call : (given : Option (List (Argument Tree))) (end : ℕ) (b : Option (Block Tree)) → IsCall given b → T (mk given end b)) where
     abbrev pub Tailed : Token → List Token → R → List Token → Type 0
     Tailed n ns r ys = ((end : ℕ) × (r ≡ mk None end None) × (ns ≡ ys)) ⊎ (T r × Ended ns ys (Tail n))
 
-    tail-made : (n : Token) (ns ps : List Token) (given : Option (List (Argument Tree))) (end : ℕ) (b : Option (Block Tree)) (ys : List Token) → Given nested ih turns free ns given ps → Behind nested ih turns free ps b ys → (b ≡ None ⊎ MayBlock nested ih turns free given) → Tailed n ns (mk given end b) ys
+    tail-made : (n : Token) (ns ps : List Token) (given : Option (List (Argument Tree))) (end : ℕ) (b : Option (Block Tree)) (ys : List Token) → Given nested ih turns free ns given ps → After nested ih turns free ps b ys → (b ≡ None ⊎ MayBlock nested ih turns free given) → Tailed n ns (mk given end b) ys
     tail-made n ns ps None end None ys g h may = inl (end, refl, g ∙ h)
     tail-made n ns ps None end (Some b) ys g h may = inr (call None end (Some b) tt, subst (λ v. Ended v ys (Tail n)) (sym g) (h.0, h.1, reach-as h.2 (block-tail n h.0)))
     tail-made n ns ps (Some given) end None ys g h may = inr (call (Some given) end None tt, subst (λ v. Ended ns v (Tail n)) h (g.0, g.1, reach-as g.2 (λ us zs d. brackets-tail n g.0 us zs (d.0, d.1))))
@@ -364,17 +364,17 @@ module _ (nested : Form → Bool → Parser Tree) (ih : Viable nested) (turns : 
 
     tail-complete : (n : Token) (ns ps : List Token) (given : Option (List (Argument Tree))) → Given nested ih turns free ns given ps → (rest : List Token) → MayBlock nested ih turns free given × Completes ps rest (AnyEnd (ABlock nested ih turns free free)) → Completes ns rest (AnyEnd (Tail n))
     tail-complete n ns ps None g rest q = subst (λ v. Completes v rest (AnyEnd (Tail n))) (sym g) (complete-as q.1 (λ us zs h. (h.0, block-tail n h.0 us zs h.1)))
-    tail-complete n ns ps (Some given) g rest q = complete-as (complete-behind g.2 q.1) (λ us zs h. let k = out h in (k.0, both-tail given q.0 n g.0 k.0 us zs k.1))
+    tail-complete n ns ps (Some given) g rest q = complete-as (complete-after g.2 q.1) (λ us zs h. let k = out h in (k.0, both-tail given q.0 n g.0 k.0 us zs k.1))
 
     pub tail-goes : (n : Token) (end : ℕ) (ns : List Token) → Goes (and_then (optional_brackets nested turns free end ns) (λ given. λ ps. and_then (optional_block nested turns free given.0 ps) (λ b ys. Ok (mk given.0 given.1 b, ys)))) (Tailed n ns) (λ rest. Completes ns rest (AnyEnd (Tail n)))
     tail-goes n end ns = bind (given-goes nested ih turns free end ns) (λ rest q. complete-as q (λ us zs h. (h.0, brackets-tail n h.0 us zs h.1)))
-        (λ given ps g. bind (block-behind-goes nested ih turns free given.0 ps) (λ rest q. tail-complete n ns ps given.0 g rest q)
+        (λ given ps g. bind (block-after-goes nested ih turns free given.0 ps) (λ rest q. tail-complete n ns ps given.0 g rest q)
         (λ b ys h. record { told = tail-made n ns ps given.0 given.1 b ys g h.0 h.1 }))
 
   no-brackets : (n middle : Token) (us ps : List Token) → DerivesBrackets None n middle us ps → us ≡ ps
   no-brackets _ _ _ _ (NoBrackets before xs) = refl
 
-  the-block : (b : Block Tree) (middle last : Token) (us zs : List Token) → DerivesBlockBehind free (Some b) middle last us zs → DerivesBlock free b last us zs
+  the-block : (b : Block Tree) (middle last : Token) (us zs : List Token) → DerivesBlockAfter free (Some b) middle last us zs → DerivesBlock free b last us zs
   the-block _ _ _ _ _ (SomeBlock f before last b xs ys d) = d
 
   tail-primary : (n last : Token) (us zs : List Token) → Is shape.Identifier n → Tail n last us zs → APrimary free last (n ∷ us) zs
@@ -451,13 +451,13 @@ module _ (nested : Form → Bool → Parser Tree) (ih : Viable nested) (turns : 
   unfolding elements_from
   elements-by start zero found xs = refusing xs elements-stand
   elements-by start (suc n) found xs = bind (ih.term true xs) (λ rest r. complete-as (complete-then r (closed-stands shape.CloseBracket bracket-one)) (λ us zs h. let k = out h in (k.0, one-element k.0 us zs k.1)))
-      (λ e ps re. bind (element-goes shape.CloseBracket bracket-one ps) (λ rest q. complete-as (complete-behind re q) (λ us zs h. let k = out h in (k.0, one-element k.0 us zs k.1))) (elim [
+      (λ e ps re. bind (element-goes shape.CloseBracket bracket-one ps) (λ rest q. complete-as (complete-after re q) (λ us zs h. let k = out h in (k.0, one-element k.0 us zs k.1))) (elim [
         | Some place ↦ λ ys g. record { told = (ends-so _ _ (rolls-Array _ _), (g.0, within-more (reach-within re) g.1, reach-as (reach-more re g.2) (one-element g.0))) }
         | None ↦ λ qs g. goes-as (elements-by start n (found ++ e ∷ []) qs) (λ t ys m. (m.0, (m.1.0, within-more (reach-within (reach-more re g)) m.1.1, reach-as (reach-more (reach-more re g) m.1.2) (more-elements m.1.0))))
-            (λ rest q. complete-as (complete-behind (reach-more re g) q) (λ us zs h. let k = out h in (k.0, more-elements k.0 us zs k.1)))
+            (λ rest q. complete-as (complete-after (reach-more re g) q) (λ us zs h. let k = out h in (k.0, more-elements k.0 us zs k.1)))
       ]))
 
-  -- with what stands behind the opening bracket
+  -- with what stands after the opening bracket
   array-of : (o last : Token) (us zs : List Token) → Is shape.OpenBracket o → Seq Gap (Elements last) us zs → APrimary free last (o ∷ us) zs
   unfolding same_shape
   array-of o last us zs is h = (_, SomeArray _ _ _ _ _ _ _ _ is h.first h.second.1.1 h.second.2.1 h.second.2.0)
@@ -514,10 +514,10 @@ module _ (nested : Form → Bool → Parser Tree) (ih : Viable nested) (turns : 
   unfolding pairs_from
   pairs-by start zero found xs = refusing xs pairs-stand
   pairs-by start (suc n) found xs = bind (pair-goes xs) (λ rest r. complete-as (complete-then r (closed-stands shape.CloseBrace brace-one)) (λ us zs h. let k = out h in (k.0, one-pair k.0 us zs k.1)))
-      (λ e ps re. bind (element-goes shape.CloseBrace brace-one ps) (λ rest q. complete-as (complete-behind re q) (λ us zs h. let k = out h in (k.0, one-pair k.0 us zs k.1))) (elim [
+      (λ e ps re. bind (element-goes shape.CloseBrace brace-one ps) (λ rest q. complete-as (complete-after re q) (λ us zs h. let k = out h in (k.0, one-pair k.0 us zs k.1))) (elim [
         | Some place ↦ λ ys g. record { told = (ends-so _ _ (rolls-Hash _ _), (g.0, within-more (reach-within re) g.1, reach-as (reach-more re g.2) (one-pair g.0))) }
         | None ↦ λ qs g. goes-as (pairs-by start n (found ++ e ∷ []) qs) (λ t ys m. (m.0, (m.1.0, within-more (reach-within (reach-more re g)) m.1.1, reach-as (reach-more (reach-more re g) m.1.2) (more-pairs m.1.0))))
-            (λ rest q. complete-as (complete-behind (reach-more re g) q) (λ us zs h. let k = out h in (k.0, more-pairs k.0 us zs k.1)))
+            (λ rest q. complete-as (complete-after (reach-more re g) q) (λ us zs h. let k = out h in (k.0, more-pairs k.0 us zs k.1)))
       ]))
 
   hash-of : (o last : Token) (us zs : List Token) → Is shape.OpenBrace o → Seq Gap (PairRow last) us zs → APrimary free last (o ∷ us) zs

@@ -13,7 +13,7 @@ use Rattle.rb_tree.specs.declared.token.Shape.{Shape}
 use Rattle.rb_tree.specs.declared.token.Shape.TheVariants as shape
 use Rattle.rb_expr.specs.declared.form.Form.{Form}
 use Rattle.rb_expr.specs.declared.form.Form.TheVariants as form
-use Rattle.rb_expr.specs.Operators.{unary_operation, binary_operation, prefixed_by, prefixed, powered, power, negated, climb_by, climb_from, climb, operation, alternatives, chosen, tern, tern_behind}
+use Rattle.rb_expr.specs.Operators.{unary_operation, binary_operation, prefixed_by, prefixed, powered, power, negated, climb_by, climb_from, climb, operation, alternatives, chosen, tern, tern_after}
 use Rattle.rb_expr.specs.Reading.{Parser, sees, after, touches}
 use Rattle.rb_expr.specs.Shapes.{binary_of, level_of, ceiling, between, operator_between, sees_number, is_signed, is_sign, is_negation, prefix_by, prefix_of}
 use Rattle.rb_rules.specs.Tokens.{Is, IsAny, Touches, IsBeforeNumber, IsRaised, NUMBERS}
@@ -24,7 +24,7 @@ use Rattle.rb_rules.specs.Grammar.DerivesLevel.{FromLeft, Once, Negated, Raised,
 use Rattle.rb_rules.specs.Grammar.DerivesPrefixed.{Prefixed}
 use Rattle.rb_grammar.proofs.Steps.{same, shown}
 use Rattle.rb_grammar.proofs.Lists.{and-left, and-right}
-use Rattle.rb_completion_laws.proofs.Steps.{Rel, This, Fits, Reach, Stands, Seq, seq-stands, reach-as, reach-more, reach-one, reach-this, reach-token, reach-fits, complete-as, complete-behind, complete-token, complete-fits, complete-reach, bind, goes-as, choosing, Plain, seq, answering, One, one-stands, expecting, before-one, fits-before}
+use Rattle.rb_completion_laws.proofs.Steps.{Rel, This, Fits, Reach, Stands, Seq, seq-stands, reach-as, reach-more, reach-one, reach-this, reach-token, reach-fits, complete-as, complete-after, complete-token, complete-fits, complete-reach, bind, goes-as, choosing, Plain, seq, answering, One, one-stands, expecting, before-one, fits-before}
 use Rattle.rb_completion_laws.proofs.Begins.{noded, level-begins}
 use Rattle.rb_completion_laws.proofs.Viable.{Viable, ATerm, ALevel, AFront, ANegated, LikeTerm, LikeLevel, LikeFront, LikeNegated, Liking, liking, like-any, looser, term-stands}
 use Rattle.rb_completion_laws.proofs.Operands.{is_number, no-number, touch, numbered, not-next}
@@ -168,13 +168,13 @@ module _ (nested : Form → Bool → Parser Tree) (ih : Viable nested) (turns : 
   pub prefixed-goes : (xs : List Token) → Plain xs (prefixed nested turns free xs) (AFront free)
   prefixed-goes xs = liking {D = LikeFront free} (like-prefixed-goes xs) (λ begins us zs h. ((h.0.0, h.0.1), h.1))
 
-  -- behind an operand with its prefixes
+  -- after an operand with its prefixes
   powered-goes : (all : List Token) (left : Tree) (xs : List Token) → Reach all xs (LikeFront free (is_begin left)) → Liking all (powered nested turns free left xs) (LikeNegated free)
   unfolding powered binary_operation
   powered-goes all left [] r = record { told = reach-as r (plain-front free (is_begin left)) }
   powered-goes all left (o ∷ os) r = choosing (same_shape (shape_of o.kind) shape.Power)
       (λ e. let ro = reach-more r (reach-one shape.Power o os (same _ _ e)) in
-      goes-as (answering _ (ih.negated free os)) (λ t ys m. reach-as (reach-more ro m) (raised-front free (is_begin left) (is_begin t))) (λ rest q. complete-as (complete-behind ro q) (raised-front free (is_begin left) true)))
+      goes-as (answering _ (ih.negated free os)) (λ t ys m. reach-as (reach-more ro m) (raised-front free (is_begin left) (is_begin t))) (λ rest q. complete-as (complete-after ro q) (raised-front free (is_begin left) true)))
       (λ e. record { told = reach-as r (plain-front free (is_begin left)) })
 
   power-goes : (xs : List Token) → Liking xs (power nested turns free xs) (LikeNegated free)
@@ -194,7 +194,7 @@ module _ (nested : Form → Bool → Parser Tree) (ih : Viable nested) (turns : 
 
   -- ---- operators between
 
-  -- how climbing goes on behind what derives at a level
+  -- how climbing goes on after what derives at a level
   abbrev Climbs : ℕ → ℕ → List Token → Type 0
   Climbs level n all = (most base : ℕ) (left : Tree) (xs : List Token) → level ≤ base → base ≤ 9 → Follows base most → Reach all xs (LikeLevel base free (is_begin left)) → Liking all (climb_from nested turns free (suc level) n most left xs) (LikeLevel level free)
 
@@ -240,7 +240,7 @@ module _ (nested : Form → Bool → Parser Tree) (ih : Viable nested) (turns : 
       let next : suc (suc k) ≡ level_of operator + 1 = let e = row.1 in omega arith in
       let ro = reach-more r (reach-this o os) in
       bind (bind (subst (λ m. Plain os (nested (form.Operation m) free os) (ALevel (suc k) free)) next (ih.level (suc k) (let b : suc k ≤ 9 = omega arith in b) free os))
-      (λ rest q. complete-as (complete-behind ro q) (joined k base most o operator less small top fo row.3 (is_begin left) true)) (λ right ys m. record { told = reach-as (reach-more ro m) (joined k base most o operator less small top fo row.3 (is_begin left) false) }))
+      (λ rest q. complete-as (complete-after ro q) (joined k base most o operator less small top fo row.3 (is_begin left) true)) (λ right ys m. record { told = reach-as (reach-more ro m) (joined k base most o operator less small top fo row.3 (is_begin left) false) }))
       (λ rest q. complete-as q (lower level k low top' true)) (λ longer ys m. again (ceiling operator) k longer ys low top' (follows operator k row.1) (reach-as m (known k longer)))
 
   climb-test : (level n : ℕ) (all : List Token) (again : Climbs level n all) (most base : ℕ) (left : Tree) (o : Token) (os : List Token) → level ≤ base → base ≤ 9 → Follows base most → Reach all (o ∷ os) (LikeLevel base free (is_begin left)) → (operator : Option Binary) → Listed (shape_of o.kind) operator →
@@ -305,7 +305,7 @@ module _ (nested : Form → Bool → Parser Tree) (ih : Viable nested) (turns : 
   chosen-goes : (all : List Token) (condition : Tree) (xs : List Token) → Reach all xs (LikeLevel 0 free (is_begin condition)) → Liking all (chosen nested turns free condition xs) (LikeTerm free)
   unfolding chosen
   chosen-goes all condition xs r = choosing (sees shape.Question xs)
-      (λ e. goes-as (sides-go condition xs) (λ t ys m. reach-as (reach-more r m) (whole-term (is_begin condition) (is_begin t))) (λ rest q. complete-as (complete-behind r q) (whole-term (is_begin condition) true)))
+      (λ e. goes-as (sides-go condition xs) (λ t ys m. reach-as (reach-more r m) (whole-term (is_begin condition) (is_begin t))) (λ rest q. complete-as (complete-after r q) (whole-term (is_begin condition) true)))
       (λ e. record { told = reach-as r (as-term (is_begin condition)) })
 
   pub like-tern-goes : (xs : List Token) → Liking xs (tern nested turns free xs) (LikeTerm free)
@@ -316,7 +316,7 @@ module _ (nested : Form → Bool → Parser Tree) (ih : Viable nested) (turns : 
   tern-goes xs = liking {D = LikeTerm free} (like-tern-goes xs) (λ begins us zs h. (h.0, h.1))
 
   -- the rest of a term that begins with this operand
-  pub behind-goes : (all : List Token) (first : Tree) (xs : List Token) → Reach all xs (LikeFront free (is_begin first)) → Liking all (tern_behind nested turns free first xs) (LikeTerm free)
-  unfolding tern_behind
-  behind-goes all first xs r = bind (powered-goes all first xs r) (λ rest q. complete-as q (λ us zs h. as-term true us zs (to-level 0 (omega arith) true us zs h)))
+  pub after-goes : (all : List Token) (first : Tree) (xs : List Token) → Reach all xs (LikeFront free (is_begin first)) → Liking all (tern_after nested turns free first xs) (LikeTerm free)
+  unfolding tern_after
+  after-goes all first xs r = bind (powered-goes all first xs r) (λ rest q. complete-as q (λ us zs h. as-term true us zs (to-level 0 (omega arith) true us zs h)))
       (λ left ys m. bind (climbing 0 (omega arith) all left ys m) (λ rest q. complete-as q (as-term true)) (λ c zs k. chosen-goes all c zs k))

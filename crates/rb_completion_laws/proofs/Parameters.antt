@@ -14,7 +14,7 @@ use Rattle.rb_expr.specs.Reading.{Outcome, sees, after, skip_separators}
 use Rattle.rb_decl.specs.declared.parameter.Stage.{Stage}
 use Rattle.rb_decl.specs.declared.parameter.Stage.TheVariants as stage
 use Rattle.rb_decl.specs.Parameters as spec
-use Rattle.rb_decl.specs.Parameters.{parameter_of, stage_behind, is_among, fresh, noted, is_plain, is_first, is_last, plain, has_no_default, keyword, block, behind_comma, is_over, row_from, row, bracketed, bare, parameters_of}
+use Rattle.rb_decl.specs.Parameters.{parameter_of, stage_after, is_among, fresh, noted, is_plain, is_first, is_last, plain, has_no_default, keyword, block, after_comma, is_over, row_from, row, bracketed, bare, parameters_of}
 use Rattle.rb_rules.specs.Tokens.{Is, IsIdentifier, IsLabel}
 use Rattle.rb_rules.specs.Forms.{AreParameters, AreKinds, AreOptionalKinds, AreKeyKinds, kinds_of, IsNot, AreDistinct, names_of_parameters}
 use Rattle.rb_rules.specs.Grammar.{Gap, GapIn, DerivesParameter, DerivesParameterList, DerivesParameters}
@@ -25,7 +25,7 @@ use Rattle.rb_rules.specs.Grammar.DerivesParameters.{NoParameters, OpenParameter
 use Rattle.rb_grammar.proofs.Steps.{same, seen}
 use Rattle.rb_grammar.proofs.Lists.{or-left, or-right, apart, noted-new}
 use Rattle.rb_grammar.proofs.Parameters.{Links}
-use Rattle.rb_completion_laws.proofs.Steps.{Rel, Reach, Completes, Stands, Seq, stands-as, seq-stands, reach-as, reach-self, reach-more, reach-this, reach-one, reach-token, complete-as, complete-then, complete-behind, complete-new, complete-token, gap-stands, Goes, bind, goes-as, choosing, Plain, plainly, seq, refusing, answering, headed, One, new_token, one-stands, expecting, gap, parted, before-one}
+use Rattle.rb_completion_laws.proofs.Steps.{Rel, Reach, Completes, Stands, Seq, stands-as, seq-stands, reach-as, reach-self, reach-more, reach-this, reach-one, reach-token, complete-as, complete-then, complete-after, complete-new, complete-token, gap-stands, Goes, bind, goes-as, choosing, Plain, plainly, seq, refusing, answering, headed, One, new_token, one-stands, expecting, gap, parted, before-one}
 use Rattle.rb_completion_laws.proofs.Viable.{ATerm, term-stands}
 use Rattle.rb_completion_laws.proofs.Branches.{separator-stands}
 use Rattle.rb_completion_laws.proofs.Lists.{paren-one}
@@ -68,7 +68,7 @@ last-in-order stage.Optional param_kind.Rest h = absurd h
 last-in-order stage.Keyword param_kind.Rest h = absurd h
 last-in-order stage.Block k h = tt
 
-more-in-order : (at : Stage) (k : ParamKind) (more : List ParamKind) → Comes k at → is_last (stage_behind k) ≡ false → InOrder (stage_behind k) more → InOrder at (k ∷ more)
+more-in-order : (at : Stage) (k : ParamKind) (more : List ParamKind) → Comes k at → is_last (stage_after k) ≡ false → InOrder (stage_after k) more → InOrder at (k ∷ more)
 more-in-order stage.Required param_kind.Required more h l o = o
 more-in-order stage.Optional param_kind.Required more h l o = absurd (cc)
 more-in-order stage.Keyword param_kind.Required more h l o = absurd (cc)
@@ -105,7 +105,7 @@ SomeParameter at names us zs = (q : Parameter Tree) × DerivesParameter q us zs 
 
 -- of the name and kind of this one
 abbrev LikeParameter : Stage → List (List ℕ) → Parameter Tree → Rel
-LikeParameter at names p us zs = (q : Parameter Tree) × DerivesParameter q us zs × Comes q.kind at × (is_among names q.name ≡ false) × (stage_behind q.kind ≡ stage_behind p.kind) × (q.name ≡ p.name)
+LikeParameter at names p us zs = (q : Parameter Tree) × DerivesParameter q us zs × Comes q.kind at × (is_among names q.name ≡ false) × (stage_after q.kind ≡ stage_after p.kind) × (q.name ≡ p.name)
 
 abbrev Placed : Stage → List (List ℕ) → List Token → Outcome (Parameter Tree) → Type 0
 Placed at names xs o = Goes o (λ p ys. Reach xs ys (LikeParameter at names p)) (λ rest. Completes xs rest (SomeParameter at names))
@@ -135,7 +135,7 @@ unfolding plain
 plain-goes d at names t w [] is p new = required-goes at names t w [] is p new
 plain-goes d at names t w (a ∷ as') is p new = choosing (same_shape (shape_of a.kind) shape.Assign)
     (λ e. let one = reach-one shape.Assign a as' (same _ _ e) in
-    bind (a-term-goes d as') (λ rest q. complete-token t (complete-as (complete-behind one q) (optional-made at names t w is p new)))
+    bind (a-term-goes d as') (λ rest q. complete-token t (complete-as (complete-after one q) (optional-made at names t w is p new)))
     (λ v ys m. record { told = reach-token t (reach-as (reach-more one m) (optional-like at names t w v t.span is p new)) }))
     (λ e. required-goes at names t w (a ∷ as') is p new)
 
@@ -155,7 +155,7 @@ new-or-not {A = A} {Q = Q} {F = F} names w f old k l = go (is_among names w) ref
     go true e = l
     go false e = k e
 
--- a name behind `&`
+-- a name after `&`
 abbrev NewIdentifier : List (List ℕ) → Rel
 NewIdentifier names us zs = (t : Token) × (w : List ℕ) × IsIdentifier t w × (us ≡ t ∷ zs) × (is_among names w ≡ false)
 
@@ -216,8 +216,8 @@ going-on at xs e = (or-left _ _ e, seen' (sees shape.Comma xs) (or-right (is_las
     seen' true e = refl
     seen' false e = absurd (cc)
 
-more-row : (bracketed : Bool) (at : Stage) (names : List (List ℕ)) (p : Parameter Tree) → is_last (stage_behind p.kind) ≡ false → (us zs : List Token) →
-    Seq (Seq (Seq (LikeParameter at names p) (One shape.Comma)) (GapIn bracketed)) (Row bracketed (stage_behind p.kind) (noted names p.name)) us zs → Row bracketed at names us zs
+more-row : (bracketed : Bool) (at : Stage) (names : List (List ℕ)) (p : Parameter Tree) → is_last (stage_after p.kind) ≡ false → (us zs : List Token) →
+    Seq (Seq (Seq (LikeParameter at names p) (One shape.Comma)) (GapIn bracketed)) (Row bracketed (stage_after p.kind) (noted names p.name)) us zs → Row bracketed at names us zs
 more-row bracketed at names p last us zs h =
     let d = before-one h.first.first in
     let q = d.0 in
@@ -238,12 +238,12 @@ comma-next {D = D} xs ps r e = let s = seen shape.Comma ps e in reach-more r (su
 row-by : (d : ℕ) (bracketed : Bool) (n : ℕ) (at : Stage) (names : List (List ℕ)) (found : List (Parameter Tree)) (xs : List Token) → Plain xs (row_from d bracketed n at names found xs) (Row bracketed at names)
 unfolding row_from
 row-by d bracketed zero at names found xs = refusing xs (row-stands bracketed at names)
-row-by d bracketed (suc n) at names found xs = bind (parameter-goes d at names xs) (λ rest q. complete-as q (one-row bracketed at names)) (λ p ps r. choosing (is_over (stage_behind p.kind) ps)
+row-by d bracketed (suc n) at names found xs = bind (parameter-goes d at names xs) (λ rest q. complete-as q (one-row bracketed at names)) (λ p ps r. choosing (is_over (stage_after p.kind) ps)
     (λ e. record { told = reach-as r (λ us zs h. one-row bracketed at names us zs (h.0, h.1, h.2, h.3)) })
-    (λ e. let on = going-on (stage_behind p.kind) ps e in
+    (λ e. let on = going-on (stage_after p.kind) ps e in
     let rc = reach-more (comma-next xs ps r on.1) (gap-in bracketed (after ps)) in
-    goes-as (row-by d bracketed n (stage_behind p.kind) (noted names p.name) (found ++ p ∷ []) (behind_comma bracketed ps))
-    (λ t ys m. reach-as (reach-more rc m) (more-row bracketed at names p on.0)) (λ rest q. complete-as (complete-behind rc q) (more-row bracketed at names p on.0))))
+    goes-as (row-by d bracketed n (stage_after p.kind) (noted names p.name) (found ++ p ∷ []) (after_comma bracketed ps))
+    (λ t ys m. reach-as (reach-more rc m) (more-row bracketed at names p on.0)) (λ rest q. complete-as (complete-after rc q) (more-row bracketed at names p on.0))))
 
 row-goes : (d : ℕ) (bracketed : Bool) (xs : List Token) → Plain xs (row d bracketed xs) (Row bracketed stage.Required [])
 unfolding row
@@ -254,7 +254,7 @@ row-goes d bracketed xs = row-by d bracketed d stage.Required [] [] xs
 abbrev pub Parameters : Rel
 Parameters us zs = (ps : List (Parameter Tree)) × DerivesParameters ps us zs × AreParameters ps × AreDistinct (names_of_parameters ps)
 
--- The body stands behind these. The parser may leave the separator before it.
+-- The body stands after these. The parser may leave the separator before it.
 abbrev pub Reading : List Token → List Token → Type 0
 Reading xs ys = (ws : List Token) × Links ws ys × Reach xs ws Parameters
 
@@ -280,7 +280,7 @@ bare-goes d xs = choosing (sees shape.Separator xs)
     (λ e. let s = separated xs xs (reach-self xs) e in record { told = (after xs, s.1, reach-as s.0 (λ us zs h. subst (λ v. Parameters v zs) (sym h.first) (none-made h.mid zs h.second))) })
     (λ e. bind (row-goes d false xs) (λ rest q. complete-as (complete-then q separator-stands) open-made) (λ found ps r. choosing (sees shape.Separator ps)
     (λ e. let s = separated xs ps r e in record { told = (after ps, s.1, reach-as s.0 open-made) })
-    (λ e. record { told = complete-as (complete-behind r (complete-new ps separator-stands)) open-made })))
+    (λ e. record { told = complete-as (complete-after r (complete-new ps separator-stands)) open-made })))
 
 -- in brackets
 brackets-made : (o : Token) → Is shape.OpenParen o → (us zs : List Token) → Seq Gap (Seq (Row true stage.Required []) (Seq Gap (One shape.CloseParen))) us zs → Parameters (o ∷ us) zs

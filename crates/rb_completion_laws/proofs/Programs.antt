@@ -116,7 +116,7 @@ program_by (Ok (found, [])) = Ok (spec.body_of found)
 program_by (Ok (found, t ∷ ts)) = Err (t ∷ ts)
 program_by (Err rest) = Err rest
 
--- what is refused, by a statement or behind all
+-- what is refused, by a statement or after all
 left-of : (tokens : List Token) (o : Outcome (List Tree)) → Plain tokens o (ABody Top true) → (rest : List Token) → program_by o ≡ Err rest → Completes tokens rest (ABody Top true)
 left-of tokens (Ok (found, [])) h rest e = absurd (cc)
 left-of tokens (Ok (found, t ∷ ts)) h rest e = let is : t ∷ ts ≡ rest = cc in subst (λ r. Completes tokens r (ABody Top true)) is (complete-reach h.told)

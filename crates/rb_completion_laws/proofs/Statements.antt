@@ -22,7 +22,7 @@ use Rattle.rb_expr.specs.Operators as operators
 use Rattle.rb_expr.specs.Reading.{Outcome, Parser, peek, sees, skip_separators}
 use Rattle.rb_expr.specs.Shapes.{begins_value, has_value, has_prefix, begins_statement, jump_of, modifier_of, assigning_of}
 use Rattle.rb_expr.specs.Statements as spec
-use Rattle.rb_expr.specs.Statements.{ending_of, is_target, is_plain_target, is_callee, begin_arguments, other_follower, operator_follower, follower_by, follower_of, assigned, operator_assigned, command, followed_by, followed, from_operand, jump_value, simple_by, simple, may_modify, allowed, modifier_behind, ended, modified, modifiers_by, modifiers_from, modifiers, statement, body_start, body_from, statements}
+use Rattle.rb_expr.specs.Statements.{ending_of, is_target, is_plain_target, is_callee, begin_arguments, other_follower, operator_follower, follower_by, follower_of, assigned, operator_assigned, command, followed_by, followed, from_operand, jump_value, simple_by, simple, may_modify, allowed, modifier_after, ended, modified, modifiers_by, modifiers_from, modifiers, statement, body_start, body_from, statements}
 use Rattle.rb_rules.specs.Tokens.{Is, IsOneOf, StartsWith}
 use Rattle.rb_rules.specs.Spans.{across, block_or}
 use Rattle.rb_rules.specs.Forms.{Site, is_open, is_begin, is_begin_at, ASSIGNMENTS, MODIFIERS, NO_COMMAND, MayModify}
@@ -35,13 +35,13 @@ use Rattle.rb_rules.specs.Grammar.DerivesDo.{NoDo}
 use Rattle.rb_rules.specs.Grammar.DerivesLevel.{Plainly}
 use Rattle.rb_grammar.proofs.Steps.{same}
 use Rattle.rb_grammar.proofs.Lists.{and-left, and-right}
-use Rattle.rb_completion_laws.proofs.Steps.{Rel, This, Fits, Reach, Completes, Stands, Seq, reach-as, reach-self, reach-more, reach-one, reach-this, reach-token, reach-fits, complete-as, complete-then, complete-behind, complete-token, complete-fits, complete-reach, Goes, bind, goes-as, choosing, Plain, plainly, seq, done, refusing, answering, headed, gap, One, one-stands, expecting, Perhaps, perhaps-stands, nothing, fits-start}
+use Rattle.rb_completion_laws.proofs.Steps.{Rel, This, Fits, Reach, Completes, Stands, Seq, reach-as, reach-self, reach-more, reach-one, reach-this, reach-token, reach-fits, complete-as, complete-then, complete-after, complete-token, complete-fits, complete-reach, Goes, bind, goes-as, choosing, Plain, plainly, seq, done, refusing, answering, headed, gap, One, one-stands, expecting, Perhaps, perhaps-stands, nothing, fits-start}
 use Rattle.rb_completion_laws.proofs.Begins.{noded}
 use Rattle.rb_completion_laws.proofs.Viable.{Viable, Bodied, AStatement, ASimple, AValue, ATarget, ACallee, Like, LikeSimple, LikeValue, Liking, liking, like-any, Uses, negated-term, value-stands}
 use Rattle.rb_completion_laws.proofs.Calls.{Bare, SomeBare, bare-goes, Commanded, command-block-goes}
 use Rattle.rb_completion_laws.proofs.Bodies.{Row, RowEnd, alone-row, longer-row, longer-end, body-of, body-parted}
 use Rattle.rb_completion_laws.proofs.Suffixes.{Post, post-goes}
-use Rattle.rb_completion_laws.proofs.Operators.{behind-goes, like-tern-goes}
+use Rattle.rb_completion_laws.proofs.Operators.{after-goes, like-tern-goes}
 use Rattle.rb_tree.specs.declared.token.TokenKind.TheVariants as kind
 
 -- ---- tables of words and operators
@@ -166,7 +166,7 @@ module _ (nested : Form → Bool → Parser Tree) (ih : Viable nested) (turns : 
   assigned-goes : (constants : Bool) (all : List Token) (first : Tree) (xs : List Token) → Reach all xs (ATarget constants free) → Liking all (assigned nested turns free first xs) (LikeValue constants free)
   unfolding assigned
   assigned-goes constants all first xs r = goes-as (seq (expecting shape.Assign assign-one xs) (value-stands false free) (λ _ es. answering _ (ih.value free es)))
-      (λ t ys m. reach-as (reach-more r m) (assigns constants (is_begin t))) (λ rest q. complete-as (complete-behind r q) (assigns constants true))
+      (λ t ys m. reach-as (reach-more r m) (assigns constants (is_begin t))) (λ rest q. complete-as (complete-after r q) (assigns constants true))
 
   computes : (constants begins : Bool) (operator : Binary) (o : Token) → IsRow ASSIGNMENTS (shape_of o.kind) operator → (us zs : List Token) → Seq (Seq (ATarget false free) (This o)) (AValue false free) us zs → LikeValue constants free begins us zs
   computes constants begins operator o row us zs h = (_, Computes _ _ _ _ _ _ _ _ _ (subst (λ v. ATarget false free us v) h.first.second h.first.first).1 row h.second.1, λ none. noded _ _ (rolls-OperatorAssign _ _ _ _ _))
@@ -174,13 +174,13 @@ module _ (nested : Form → Bool → Parser Tree) (ih : Viable nested) (turns : 
   computed-goes : (constants : Bool) (all : List Token) (first : Tree) (operator : Binary) (o : Token) (os : List Token) → IsRow ASSIGNMENTS (shape_of o.kind) operator → Reach all (o ∷ os) (ATarget false free) → Liking all (operator_assigned nested turns free operator first (o ∷ os)) (LikeValue constants free)
   unfolding operator_assigned
   computed-goes constants all first operator o os row r = let ro = reach-more r (reach-this o os) in
-      goes-as (answering _ (ih.value free os)) (λ t ys m. reach-as (reach-more ro m) (computes constants (is_begin t) operator o row)) (λ rest q. complete-as (complete-behind ro q) (computes constants true operator o row))
+      goes-as (answering _ (ih.value free os)) (λ t ys m. reach-as (reach-more ro m) (computes constants (is_begin t) operator o row)) (λ rest q. complete-as (complete-after ro q) (computes constants true operator o row))
 
   -- a command without a block
   commands : (constants begins : Bool) (xs us zs : List Token) → ¬ StartsWith NO_COMMAND xs → Seq (ACallee free) (λ us zs. SomeBare nested ih turns free false us zs × Fits xs us) us zs → LikeValue constants free begins us zs
   commands constants begins xs us zs none h = (_, Command _ _ _ _ _ _ _ _ _ h.first.1 (fits-command xs h.mid none h.second.1) h.second.0.1 h.second.0.2 (NoDo _ _) (inl refl), λ none. noded _ _ (rolls-Command h.first.0 h.second.0.0 None (across (span_of h.first.0) (block_or (span_of_arguments (span_of h.first.0) h.second.0.0) None))))
 
-  -- with what stands behind it
+  -- with what stands after it
   blocks : (constants begins : Bool) (xs : List Token) (given : List (Argument Tree)) (us zs : List Token) → ¬ StartsWith NO_COMMAND xs → Seq (Seq (ACallee free) (λ us zs. Bare nested ih turns free false given us zs × Fits xs us)) (Commanded nested ih turns free given) us zs → LikeValue constants free begins us zs
   blocks constants begins xs given us zs none h =
       let c = h.first.first in
@@ -189,13 +189,13 @@ module _ (nested : Form → Bool → Parser Tree) (ih : Viable nested) (turns : 
 
   command-goes : (constants : Bool) (all : List Token) (callee : Tree) (xs : List Token) → ¬ StartsWith NO_COMMAND xs → Reach all xs (ACallee free) → Liking all (command nested turns free callee xs) (LikeValue constants free)
   unfolding command
-  command-goes constants all callee xs none r = bind (bare-goes nested ih turns free xs) (λ rest q. complete-as (complete-behind r (complete-fits q)) (λ us zs h. commands constants true xs us zs none h))
+  command-goes constants all callee xs none r = bind (bare-goes nested ih turns free xs) (λ rest q. complete-as (complete-after r (complete-fits q)) (λ us zs h. commands constants true xs us zs none h))
       (λ given ps m. let ra = reach-more r (reach-fits m) in
-      bind (command-block-goes nested ih turns free given.0 ps) (λ rest q. complete-as (complete-behind ra q) (λ us zs h. blocks constants true xs given.0 us zs none h))
+      bind (command-block-goes nested ih turns free given.0 ps) (λ rest q. complete-as (complete-after ra q) (λ us zs h. blocks constants true xs given.0 us zs none h))
       (λ b ys k. record { told = reach-as (reach-more ra k) (λ us zs h. blocks constants _ xs given.0 us zs none h) }))
 
-  rest-goes : (constants : Bool) (all : List Token) (first : Tree) (e : Ending) (xs : List Token) → Reach all xs (Post nested ih turns free (is_begin first) e) → Liking all (operators.tern_behind nested turns free first xs) (LikeValue constants free)
-  rest-goes constants all first e xs r = goes-as (behind-goes nested ih turns free all first xs (reach-as r (λ us zs h. h.0))) (λ t ys m. reach-as m (λ us zs h. (_, Term _ _ _ _ _ h.1, h.2))) (λ rest q. complete-as q (λ us zs h. (_, Term _ _ _ _ _ h.1, h.2)))
+  rest-goes : (constants : Bool) (all : List Token) (first : Tree) (e : Ending) (xs : List Token) → Reach all xs (Post nested ih turns free (is_begin first) e) → Liking all (operators.tern_after nested turns free first xs) (LikeValue constants free)
+  rest-goes constants all first e xs r = goes-as (after-goes nested ih turns free all first xs (reach-as r (λ us zs h. h.0))) (λ t ys m. reach-as m (λ us zs h. (_, Term _ _ _ _ _ h.1, h.2))) (λ rest q. complete-as q (λ us zs h. (_, Term _ _ _ _ _ h.1, h.2)))
 
   other-goes : (constants : Bool) (all : List Token) (first : Tree) (e : Ending) (xs : List Token) → Reach all xs (Post nested ih turns free (is_begin first) e) → Liking all (followed_by nested turns free first (other_follower e (peek xs)) xs) (LikeValue constants free)
   other-goes constants all first e xs r = go (is_callee e && begin_arguments (peek xs)) refl
@@ -276,7 +276,7 @@ module _ (nested : Form → Bool → Parser Tree) (ih : Viable nested) (turns : 
 
   -- ---- modifiers
 
-  -- behind a statement that is a `begin` only where the flag says so
+  -- after a statement that is a `begin` only where the flag says so
   abbrev WithModifiers : Bool → Rel
   WithModifiers begins us zs = (s : Tree) → Like begins s → (t : Tree) × DerivesModified free s t us zs
 
@@ -300,7 +300,7 @@ module _ (nested : Form → Bool → Parser Tree) (ih : Viable nested) (turns : 
       go false e = done inner (m ∷ ms) (unmodified (is_begin inner))
 
   modifiers-go : (n : ℕ) (inner : Tree) (xs : List Token) → Plain xs (modifiers_from nested turns free n inner xs) (WithModifiers (is_begin inner))
-  unfolding modifiers_from modifier_behind
+  unfolding modifiers_from modifier_after
   modifiers-go zero inner xs = refusing xs (modifiers-stand (is_begin inner))
   modifiers-go (suc n) inner [] = done inner [] (unmodified (is_begin inner))
   modifiers-go (suc n) inner (m ∷ ms) = modifiers-by' n (modifiers-go n) inner m ms (modifier_of (Some (shape_of m.kind))) (modifying (shape_of m.kind))
@@ -311,19 +311,19 @@ module _ (nested : Form → Bool → Parser Tree) (ih : Viable nested) (turns : 
   pub statement-goes : (at : Site) (xs : List Token) → Plain xs (statement nested turns free (is_open at) xs) (AStatement at free)
   unfolding statement modifiers
   statement-goes at xs = bind (like-simple-goes (is_open at) xs) (λ rest q. complete-as (complete-then q (modifiers-stand true)) (statement-made at true))
-      (λ s ps r. goes-as (modifiers-go turns s ps) (λ t ys m. reach-as (reach-more r m) (statement-made at (is_begin s))) (λ rest q. complete-as (complete-behind r q) (statement-made at (is_begin s))))
+      (λ s ps r. goes-as (modifiers-go turns s ps) (λ t ys m. reach-as (reach-more r m) (statement-made at (is_begin s))) (λ rest q. complete-as (complete-after r q) (statement-made at (is_begin s))))
 
   -- ---- bodies
 
-  -- statements are read, and where a `rescue` is next, a separator stands behind them
+  -- statements are read, and where a `rescue` is next, a separator stands after them
   abbrev Rowed : Site → List Token → Outcome Tree → Type 0
   Rowed at xs o = Goes o (λ t ys. Reach xs ys (Row at free) × (sees shape.Rescue ys ≡ true → Reach xs ys (RowEnd at free))) (λ rest. Completes xs rest (Row at free))
 
-  behind-statement : (at : Site) (start end n : ℕ) (found : List Tree) (xs : List Token) → ((found : List Tree) (end : ℕ) (us : List Token) → Rowed at us (body_from nested turns free (is_open at) start end n found us)) → (s : Tree) (qs : List Token) → Reach xs qs (AStatement at free) →
+  after-statement : (at : Site) (start end n : ℕ) (found : List Tree) (xs : List Token) → ((found : List Tree) (end : ℕ) (us : List Token) → Rowed at us (body_from nested turns free (is_open at) start end n found us)) → (s : Tree) (qs : List Token) → Reach xs qs (AStatement at free) →
       Rowed at xs (if sees shape.Separator qs then body_from nested turns free (is_open at) start end n (found ++ s ∷ []) (skip_separators qs) else ended (found ++ s ∷ []) (record { start = start; end = end }) qs)
   unfolding ended
-  behind-statement at start end n found xs again s [] r = record { told = (reach-as r (alone-row at free), λ e. absurd (cc)) }
-  behind-statement at start end n found xs again s (t ∷ ts) r = by (same_shape (shape_of t.kind) shape.Separator) refl
+  after-statement at start end n found xs again s [] r = record { told = (reach-as r (alone-row at free), λ e. absurd (cc)) }
+  after-statement at start end n found xs again s (t ∷ ts) r = by (same_shape (shape_of t.kind) shape.Separator) refl
     where
       by : (b : Bool) → same_shape (shape_of t.kind) shape.Separator ≡ b →
           Rowed at xs (if b then body_from nested turns free (is_open at) start end n (found ++ s ∷ []) (if b then skip_separators ts else t ∷ ts) else ended (found ++ s ∷ []) (record { start = start; end = end }) (t ∷ ts))
@@ -332,7 +332,7 @@ module _ (nested : Form → Bool → Parser Tree) (ih : Viable nested) (turns : 
           let g = gap ts in
           goes-as (again (found ++ s ∷ []) end (skip_separators ts))
           (λ b ys m. (reach-as (reach-more r (reach-more one (reach-more g m.0))) (longer-row at free), λ e. reach-as (reach-more r (reach-more one (reach-more g (m.1 e)))) (longer-end at free)))
-          (λ rest q. complete-as (complete-behind r (complete-behind one (complete-behind g q))) (longer-row at free))
+          (λ rest q. complete-as (complete-after r (complete-after one (complete-after g q))) (longer-row at free))
       by false e = choosing (sees shape.Rescue (t ∷ ts))
           (λ e. record { told = complete-as (complete-reach r) (alone-row at free) })
           (λ other. record { told = (reach-as r (alone-row at free), λ e. absurd (cc)) })
@@ -341,11 +341,11 @@ module _ (nested : Form → Bool → Parser Tree) (ih : Viable nested) (turns : 
   unfolding body_from
   body-by at start end zero found xs = refusing xs perhaps-stands
   body-by at start end (suc n) found xs = choosing (begins_statement xs)
-      (λ e. bind (statement-goes at xs) (λ rest q. complete-as q (alone-row at free)) (λ s qs r. behind-statement at start (span_of s).end n found xs (λ found end us. body-by at start end n found us) s qs r))
+      (λ e. bind (statement-goes at xs) (λ rest q. complete-as q (alone-row at free)) (λ s qs r. after-statement at start (span_of s).end n found xs (λ found end us. body-by at start end n found us) s qs r))
       (λ e. record { told = (reach-as (reach-self xs) (λ us zs e. inl e), λ sees. reach-as (reach-self xs) (λ us zs e. inl e)) })
 
   pub body-goes : (at : Site) (xs : List Token) → Bodied at free xs (spec.body nested turns free (is_open at) xs)
   unfolding spec.body statements
   body-goes at xs = goes-as (body-by at (body_start (skip_separators xs)) 0 turns [] (skip_separators xs))
       (λ t ys m. (reach-as (reach-more (gap xs) m.0) (body-of at free), λ e. reach-as (reach-more (gap xs) (m.1 e)) (body-parted at free)))
-      (λ rest q. complete-as (complete-behind (gap xs) q) (body-of at free))
+      (λ rest q. complete-as (complete-after (gap xs) q) (body-of at free))

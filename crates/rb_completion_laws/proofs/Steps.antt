@@ -13,15 +13,15 @@ use Rattle.rb_rules.specs.Tokens.{Is, IsOneOf, StartsWith, IsBeforeNumber, NUMBE
 use Rattle.rb_rules.specs.Grammar.{Gap}
 use Rattle.rb_rules.specs.Grammar.Gap.{Closed, Wide}
 use Rattle.rb_grammar.proofs.Steps.{same, shown, Within, within-self, within-token, within-more}
-use Rattle.rb_completion_laws.specs.Behind.{joins, Clear}
+use Rattle.rb_completion_laws.specs.After.{joins, Clear}
 
 -- what tokens are, before others
 abbrev pub Rel : Type 1
 Rel = List Token → List Token → Type 0
 
--- ---- other tokens behind
+-- ---- other tokens after
 
--- the first two lists end as the last two do, behind the same front
+-- the first two lists end as the last two do, after the same front
 abbrev pub Swapped : List Token → List Token → List Token → List Token → Type 0
 Swapped xs ys us zs = (front : List Token) × (xs ≡ front ++ ys) × (us ≡ front ++ zs)
 
@@ -79,7 +79,7 @@ pub record Made (E : Rel) (zs : List Token) : Type 0 where
 abbrev pub Stands : Rel → Type 0
 Stands E = (zs : List Token) → Clear zs → Made E zs
 
--- one behind the other
+-- one after the other
 pub record Seq (D E : Rel) (xs zs : List Token) : Type 0 where
   pub mid : List Token
   pub first : D xs mid
@@ -109,7 +109,7 @@ reach-more r s zs f =
     let a = r b.whole b.fits in
     record { whole = a.whole; swapped = swapped-more a.swapped b.swapped; fits = a.fits; derives = record { mid = b.whole; first = a.derives; second = b.derives } }
 
--- behind this token
+-- after this token
 pub reach-token : {xs ys : List Token} {D : Rel} (t : Token) → Reach xs ys (λ us zs. D (t ∷ us) zs) → Reach (t ∷ xs) ys D
 reach-token t r zs f = let a = r zs f in record { whole = t ∷ a.whole; swapped = swapped-token t a.swapped; fits = Alike _ _ _; derives = a.derives }
 
@@ -127,8 +127,8 @@ complete-then r s zs c =
     record { whole = a.whole; more = a.more; swapped = a.swapped; fits = a.fits; derives = record { mid = b.whole; first = a.derives; second = b.derives } }
 
 -- what was read, and then what is completed
-pub complete-behind : {xs ps rest : List Token} {D E : Rel} → Reach xs ps D → Completes ps rest E → Completes xs rest (Seq D E)
-complete-behind r s zs c =
+pub complete-after : {xs ps rest : List Token} {D E : Rel} → Reach xs ps D → Completes ps rest E → Completes xs rest (Seq D E)
+complete-after r s zs c =
     let b = s zs c in
     let a = r b.whole b.fits in
     record { whole = a.whole; more = b.more; swapped = swapped-more a.swapped b.swapped; fits = a.fits; derives = record { mid = b.whole; first = a.derives; second = b.derives } }
@@ -178,7 +178,7 @@ pub plainly : {A : Type 0} {xs : List Token} {o : Outcome A} {D E : Rel} → Pla
 plainly h k = goes-as h (λ a ys r. reach-as r k) (λ rest r. complete-as r k)
 
 pub seq : {A B : Type 0} {xs : List Token} {o : Outcome A} {f : A → Parser B} {D E : Rel} → Plain xs o D → Stands E → ((a : A) (ys : List Token) → Plain ys (f a ys) E) → Plain xs (and_then o f) (Seq D E)
-seq h s k = bind h (λ rest r. complete-then r s) (λ a ys r. goes-as (k a ys) (λ b zs q. reach-more r q) (λ rest q. complete-behind r q))
+seq h s k = bind h (λ rest r. complete-then r s) (λ a ys r. goes-as (k a ys) (λ b zs q. reach-more r q) (λ rest q. complete-after r q))
 
 pub done : {A : Type 0} {D : Rel} (a : A) (xs : List Token) → ((zs : List Token) → D zs zs) → Plain xs (Ok (a, xs)) D
 done a xs d = record { told = λ zs f. record { whole = zs; swapped = swapped-self xs zs; fits = f; derives = d zs } }
@@ -224,9 +224,9 @@ pub gap : (xs : List Token) → Reach xs (skip_separators xs) Gap
 gap [] = reach-as (reach-self []) (λ us zs e. subst (λ vs. Gap us vs) e (Closed us))
 gap (t ∷ ts) = gap-by t ts (skip_separators ts) (same_shape (shape_of t.kind) shape.Separator) refl (gap ts)
 
--- what stands behind separators
+-- what stands after separators
 pub parted : {A : Type 0} {xs : List Token} {D : Rel} {o : Outcome A} → Plain (skip_separators xs) o D → Plain xs o (Seq Gap D)
-parted {xs = xs} h = goes-as h (λ a ys r. reach-more (gap xs) r) (λ rest r. complete-behind (gap xs) r)
+parted {xs = xs} h = goes-as h (λ a ys r. reach-more (gap xs) r) (λ rest r. complete-after (gap xs) r)
 
 -- what is made of what was read plays no part
 pub answering : {A B : Type 0} {xs : List Token} {o : Outcome A} {D : Rel} (g : A → B) → Plain xs o D → Plain xs (and_then o (λ a ys. Ok (g a, ys))) D
@@ -286,7 +286,7 @@ pub seq-closing : {A B : Type 0} {xs : List Token} {o : Outcome A} {f : A → Pa
 seq-closing h s k = bind h
     (λ rest r. complete-as (complete-then r s) (λ us zs h. (h.second.0, record { mid = h.mid; first = h.first; second = h.second.1 })))
     (λ a ys r. goes-as (k a ys) (λ b zs q. (q.0, (q.1.0, within-more (reach-within r) q.1.1, reach-more r q.1.2)))
-    (λ rest q. complete-as (complete-behind r q) (λ us zs h. (h.second.0, record { mid = h.mid; first = h.first; second = h.second.1 }))))
+    (λ rest q. complete-as (complete-after r q) (λ us zs h. (h.second.0, record { mid = h.mid; first = h.first; second = h.second.1 }))))
 
 pub closingly : {A : Type 0} {xs : List Token} {o : Outcome A} {T : A → Type 0} {D E : Token → Rel} → Closing xs o T D → ((last : Token) (us zs : List Token) → D last us zs → E last us zs) → Closing xs o T E
 closingly h k = goes-as h (λ a ys q. (q.0, (q.1.0, q.1.1, reach-as q.1.2 (k q.1.0)))) (λ rest q. complete-as q (λ us zs d. (d.0, k d.0 us zs d.1)))
@@ -294,10 +294,10 @@ closingly h k = goes-as h (λ a ys q. (q.0, (q.1.0, q.1.1, reach-as q.1.2 (k q.1
 pub headed-closing : {A : Type 0} {xs : List Token} {o : Outcome A} {T : A → Type 0} {D : Token → Rel} (t : Token) → Closing xs o T (λ last us zs. D last (t ∷ us) zs) → Closing (t ∷ xs) o T D
 headed-closing t h = goes-as h (λ a ys q. (q.0, (q.1.0, within-token t q.1.1, reach-token t q.1.2))) (λ rest q. complete-token t q)
 
--- behind separators
+-- after separators
 pub parted-closing : {A : Type 0} {xs : List Token} {T : A → Type 0} {D : Token → Rel} {o : Outcome A} → Closing (skip_separators xs) o T D → Closing xs o T (λ last. Seq Gap (D last))
 parted-closing {xs = xs} h = goes-as h (λ a ys q. (q.0, (q.1.0, within-more (reach-within (gap xs)) q.1.1, reach-more (gap xs) q.1.2)))
-    (λ rest q. complete-as (complete-behind (gap xs) q) (λ us zs h. (h.second.0, record { mid = h.mid; first = h.first; second = h.second.1 })))
+    (λ rest q. complete-as (complete-after (gap xs) q) (λ us zs h. (h.second.0, record { mid = h.mid; first = h.first; second = h.second.1 })))
 
 -- the last token
 abbrev pub Last : Shape → Token → Rel
@@ -337,7 +337,7 @@ taken {Q = Q} {F = F} s f t ts is h = by (same_shape (shape_of t.kind) s) (shown
 pub led : {D : Rel} {s : Shape} {us zs : List Token} (E : Rel) → Seq (One s) D us zs → ((t : Token) (ts : List Token) → Is s t → D ts zs → E (t ∷ ts) zs) → E us zs
 led {zs = zs} E h k = subst (λ v. E v zs) (sym h.first.2) (k h.first.0 h.mid h.first.1 h.second)
 
--- the last token out of what stands behind
+-- the last token out of what stands after
 pub out : {D : Rel} {E : Token → Rel} {us zs : List Token} → Seq D (AnyEnd E) us zs → AnyEnd (λ last. Seq D (E last)) us zs
 out h = (h.second.0, record { mid = h.mid; first = h.first; second = h.second.1 })
 

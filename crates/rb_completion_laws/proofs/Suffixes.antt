@@ -27,7 +27,7 @@ use Rattle.rb_rules.specs.Tokens.{Is, IsAny, IsOneOf, IsIdentifier, IsConstant, 
 use Rattle.rb_rules.specs.Forms.{is_begin}
 use Rattle.rb_rules.specs.Grammar.{DOTS, IsRow, DerivesSuffix, DerivesIndex}
 use Rattle.rb_rules.specs.Grammar.DerivesBrackets.{NoBrackets}
-use Rattle.rb_rules.specs.Grammar.DerivesBlockBehind.{NoBlock}
+use Rattle.rb_rules.specs.Grammar.DerivesBlockAfter.{NoBlock}
 use Rattle.rb_rules.specs.Grammar.DerivesOperand.{Bare, Suffixed}
 use Rattle.rb_rules.specs.Grammar.DerivesSuffix.{Calls, Within as Inner, Indexed}
 use Rattle.rb_rules.specs.Grammar.DerivesIndex.{Index}
@@ -35,7 +35,7 @@ use Rattle.rb_rules.specs.Grammar.DerivesTarget.{Attribute, Element}
 use Rattle.rb_rules.specs.Grammar.DerivesCallee.{Of}
 use Rattle.rb_rules.specs.Grammar.DerivesPrefixed.{Posted}
 use Rattle.rb_grammar.proofs.Steps.{Within, within-token, within-more, identifier, constant}
-use Rattle.rb_completion_laws.proofs.Steps.{Rel, This, Reach, Completes, Seq, reach-as, reach-more, reach-this, reach-token, reach-within, complete-as, complete-behind, complete-new, complete-token, complete-reach, Goes, bind, goes-as, choosing, Ended, AnyEnd, follow-name, out}
+use Rattle.rb_completion_laws.proofs.Steps.{Rel, This, Reach, Completes, Seq, reach-as, reach-more, reach-this, reach-token, reach-within, complete-as, complete-after, complete-new, complete-token, complete-reach, Goes, bind, goes-as, choosing, Ended, AnyEnd, follow-name, out}
 use Rattle.rb_completion_laws.proofs.Begins.{posted-more}
 use Rattle.rb_completion_laws.proofs.Viable.{Viable, AnOperand, AFront, LikeFront, LikeOperand, Signs, Uses, ends-so, name-stands}
 use Rattle.rb_completion_laws.proofs.Calls.{added-got, AnIndex, index-goes}
@@ -72,8 +72,8 @@ touch before o os e = grind (arith, nat_tests)
 may-index : (before o : Token) (os all : List Token) → Within all (before ∷ o ∷ os) → is_index all (o ∷ os) ≡ true → MayIndex before o
 unfolding is_index
 may-index before o os all w e =
-    let behind : is_index_after (slice_get (w.0 ++ before ∷ o ∷ os) (length (w.0 ++ before ∷ o ∷ os) - length (o ∷ os) - 1)) (o ∷ os) ≡ true = subst (λ zs. is_index_after (slice_get zs (length zs - length (o ∷ os) - 1)) (o ∷ os) ≡ true) w.1 e in
-    let known : is_index_after (Some before) (o ∷ os) ≡ true = subst (λ x. is_index_after x (o ∷ os) ≡ true) (got-before w.0 before (o ∷ os)) behind in
+    let after : is_index_after (slice_get (w.0 ++ before ∷ o ∷ os) (length (w.0 ++ before ∷ o ∷ os) - length (o ∷ os) - 1)) (o ∷ os) ≡ true = subst (λ zs. is_index_after (slice_get zs (length zs - length (o ∷ os) - 1)) (o ∷ os) ≡ true) w.1 e in
+    let known : is_index_after (Some before) (o ∷ os) ≡ true = subst (λ x. is_index_after x (o ∷ os) ≡ true) (got-before w.0 before (o ∷ os)) after in
     ⊎_elim (λ k. inr (shape-closes _ k)) (λ k. inl (touch before o os k)) (either _ _ known)
 
 module _ (nested : Form → Bool → Parser Tree) (ih : Viable nested) (turns : ℕ) (free : Bool) where
@@ -92,7 +92,7 @@ module _ (nested : Form → Bool → Parser Tree) (ih : Viable nested) (turns : 
   no-uses : (e : Ending) → e ≡ ending.Other → (before : Token) (us zs : List Token) → (all : List Token) → AnOperand free before all us → Uses e free all zs
   no-uses e is before us zs all o = subst (λ x. Uses x free all zs) (sym is) tt
 
-  -- a name behind a dot
+  -- a name after a dot
   plain-call : (before d n : Token) (joint : Dot) (zs : List Token) → IsRow DOTS (shape_of d.kind) joint → IsIdentifier n (words_of n.kind) → SomeSuffix before n (d ∷ n ∷ zs) zs
   plain-call before d n joint zs row is = (_, Calls _ _ _ _ _ _ _ _ _ _ _ _ _ row is (NoBrackets _ _) (NoBlock _ _ _) (inl refl))
 
@@ -117,11 +117,11 @@ module _ (nested : Form → Bool → Parser Tree) (ih : Viable nested) (turns : 
   call-other dot.Safe w place span None (Some b) c = refl
   call-other dot.Safe w place span (Some given) b c = refl
 
-  -- behind the dot
+  -- after the dot
   call-goes : (before : Token) (joint : Dot) (d : Token) (ds : List Token) → IsRow DOTS (shape_of d.kind) joint → Suffixing before (d ∷ ds) (call_suffix nested turns free joint (d ∷ ds))
   unfolding call_suffix
   call-goes before joint d ds row = follow-name shape.Identifier (λ ps. Reach (d ∷ ds) ps (This d)) _ ds (reach-this d ds)
-      (λ r. complete-as (complete-behind r (complete-new _ name-stands)) (λ us zs h. (h.second.0, alone us zs h.second.0 (identifier h.second.0 h.second.1) (record { mid = h.mid; first = h.first; second = h.second.2 }))))
+      (λ r. complete-as (complete-after r (complete-new _ name-stands)) (λ us zs h. (h.second.0, alone us zs h.second.0 (identifier h.second.0 h.second.1) (record { mid = h.mid; first = h.first; second = h.second.2 }))))
       (λ n ns is r. let rn = reach-more r (reach-this n ns) in
       goes-as (tail-goes nested ih turns free (λ given end b. suffix.Call joint (words_of n.kind) n.span given b (record { start = d.span.start; end = end_with b end })) (λ s. ending_of_suffix {T = Tree} s ≡ ending.Other)
       (λ given end b c. call-other joint (words_of n.kind) n.span (record { start = d.span.start; end = end_with b end }) given b c) n n.span.end ns)
@@ -129,7 +129,7 @@ module _ (nested : Form → Bool → Parser Tree) (ih : Viable nested) (turns : 
       (λ k. subst (λ s. Ended (d ∷ ds) ys (LikeSuffix (ending_of_suffix {T = Tree} s) before)) (sym k.1) (subst (λ v. Ended (d ∷ ds) v (LikeSuffix (ending_of_suffix {T = Tree} (suffix.Call joint (words_of n.kind) n.span None None (record { start = d.span.start; end = k.0 }))) before)) k.2
       (n, reach-within r, reach-as rn (λ us zs h. (alone us zs n (identifier n is) h, λ all o. plain-uses before d n joint k.0 zs row (identifier n is) all (subst (λ v. AnOperand free before all v) (first us zs n h) o))))))
       (λ k. (k.1.0, within-more (reach-within rn) k.1.1, reach-as (reach-more rn k.1.2) (λ us zs h. (whole us zs n k.1.0 (identifier n is) h, no-uses (ending_of_suffix {T = Tree} s) k.0 before us zs)))) m)
-      (λ rest q. complete-as (complete-behind rn q) (λ us zs h. let k = out h in (k.0, whole us zs n k.0 (identifier n is) k.1))))
+      (λ rest q. complete-as (complete-after rn q) (λ us zs h. let k = out h in (k.0, whole us zs n k.0 (identifier n is) k.1))))
     where
       first : (us zs : List Token) (n : Token) → Seq (This d) (This n) us zs → us ≡ d ∷ n ∷ zs
       first us zs n h = h.first ∙ ap (λ v. d ∷ v) h.second
@@ -143,7 +143,7 @@ module _ (nested : Form → Bool → Parser Tree) (ih : Viable nested) (turns : 
   constant-goes : (before c : Token) (cs : List Token) → Is shape.Scope c → Suffixing before (c ∷ cs) (constant_suffix nested turns free (c ∷ cs))
   unfolding constant_suffix
   constant-goes before c cs is = follow-name shape.Constant (λ ps. Reach (c ∷ cs) ps (This c)) _ cs (reach-this c cs)
-      (λ r. complete-as (complete-behind r (complete-new _ constant-one)) (λ us zs h. (h.second.0, made us zs h.second.0 (constant h.second.0 h.second.1) (record { mid = h.mid; first = h.first; second = h.second.2 }))))
+      (λ r. complete-as (complete-after r (complete-new _ constant-one)) (λ us zs h. (h.second.0, made us zs h.second.0 (constant h.second.0 h.second.1) (record { mid = h.mid; first = h.first; second = h.second.2 }))))
       (λ n ns con r. record { told = (n, reach-within r, reach-as (reach-more r (reach-this n ns)) (λ us zs h. (made us zs n (constant n con) h, λ all o. tt))) })
     where
       made : (us zs : List Token) (n : Token) → IsConstant n (words_of n.kind) → Seq (This c) (This n) us zs → SomeSuffix before n us zs
@@ -231,7 +231,7 @@ module _ (nested : Form → Bool → Parser Tree) (ih : Viable nested) (turns : 
   unfolding suffixes_from
   suffixes-by all r end zero ss xs h = record { told = complete-as (complete-reach h.2) (λ us zs d. as-front h.0 us zs (plain-operand _ h.0 us zs d.0) d.1) }
   suffixes-by all r end (suc n) ss xs h = bind (suffix-goes all h.0 xs h.1)
-      (λ rest q. complete-as (complete-behind h.2 q) (λ us zs d. let k = out d in let w = with-suffix _ true _ h.0 k.0 us zs k.1 in as-front k.0 us zs (plain-operand true k.0 us zs w.0) w.1))
+      (λ rest q. complete-as (complete-after h.2 q) (λ us zs d. let k = out d in let w = with-suffix _ true _ h.0 k.0 us zs k.1 in as-front k.0 us zs (plain-operand true k.0 us zs w.0) w.1))
       (elim [
         | Some s ↦ λ ys k. suffixes-by all r (span_of_suffix s).end n (ss ++ s ∷ []) ys (row-more all r end ss s (span_of_suffix s).end xs h ys k)
         | None ↦ λ ys e. record {

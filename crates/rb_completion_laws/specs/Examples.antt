@@ -6,7 +6,7 @@ use Rattle.rb_tree.specs.declared.token.TokenKind.TheVariants as kind
 use Rattle.rb_decl.specs.Programs.{program}
 use Rattle.rb_rules.specs.Grammar.{Begins}
 
--- With the second list behind the first, the second is refused. The first begins a program.
+-- With the second list after the first, the second is refused. The first begins a program.
 abbrev pub RefusedAt : List Token → List Token → Type 0
 RefusedAt before rest = (program 9 (before ++ rest) ≡ Err rest) × Begins before
 
@@ -16,7 +16,7 @@ token k = record { kind = k; span = record { start = 0; end = 0 } }
 abbrev pub x : Token
 x = token (kind.Identifier (codes "x"))
 
--- `! - )`: a number may stand behind the sign
+-- `! - )`: a number may stand after the sign
 abbrev pub SignRefused : Type 0
 SignRefused = RefusedAt (token kind.Not ∷ token kind.Minus ∷ []) (token kind.CloseParen ∷ [])
 

@@ -7,7 +7,7 @@ use Rattle.rb_expr.specs.Rules.{statement, longest_body, tern}
 use Rattle.rb_decl.specs.Programs.{place_of, program, parsed}
 use Rattle.rb_rules.specs.Forms.{Site, is_open}
 use Rattle.rb_rules.specs.Grammar.{Begins, DerivesBody, DerivesStatement, DerivesTerm}
-use Rattle.rb_completion_laws.specs.Behind.{Clear}
+use Rattle.rb_completion_laws.specs.After.{Clear}
 
 -- ---- programs
 
@@ -26,9 +26,9 @@ BadFrontsBegin = (tokens : List Token) (at : ℕ) → parsed tokens ≡ Err (Bad
 
 -- ---- forms
 
--- The tokens before the refused one begin such a form: with others behind them they are one, before any tokens that are clear of it.
+-- The tokens before the refused one begin such a form: with others after them they are one, before any tokens that are clear of it.
 abbrev pub Begun : (List Token → List Token → Type 0) → List Token → List Token → Type 0
-Begun D tokens rest = (before : List Token) × (tokens ≡ before ++ rest) × ((behind : List Token) → Clear behind → (more : List Token) × D (before ++ more) behind)
+Begun D tokens rest = (before : List Token) × (tokens ≡ before ++ rest) × ((after : List Token) → Clear after → (more : List Token) × D (before ++ more) after)
 
 abbrev pub TermsBegin : Type 0
 TermsBegin = (depth : ℕ) (tokens rest : List Token) → tern depth tokens ≡ Err rest → Begun (λ xs ys. (t : Tree) × DerivesTerm true t xs ys) tokens rest

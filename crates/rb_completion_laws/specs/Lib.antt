@@ -1,3 +1,3 @@
-pub mod Behind
+pub mod After
 pub mod Laws
 pub mod Examples

@@ -1,7 +1,7 @@
 //! Laws on the parser's refusals: what is read before a refusal begins a program, so that nothing is refused too late.
 //!
-//! `Begins` of `rb_rules` says that tokens begin a program: with others behind them they are one. `Begun` says the same of a form,
-//! before any tokens that `Clear` allows behind it.
+//! `Begins` of `rb_rules` says that tokens begin a program: with others after them they are one. `Begun` says the same of a form,
+//! before any tokens that `Clear` allows after it.
 #![tactic(auto)]
 
 ghost use Rattle.rb_completion_laws.specs.Examples.{EndRefused, GuardRefused, LoopRefused, NameRefused, SignRefused};

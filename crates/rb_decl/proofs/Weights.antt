@@ -10,7 +10,7 @@ use Rattle.rb_weight.specs.Weights.{DeepAt, IsFirstDeep}
 use Rattle.rb_weight.proofs.Alike.{first-deep}
 use Rattle.rb_decl.specs.Programs.{Parses, MeetsWeight, parsed, parsed_by, whole, whole_of, cut, cut_of, program, token_start}
 
--- an answer for want of memory meets the weight whatever is said
+-- an answer because memory ran out meets the weight whatever is said
 abbrev Meets : List Token → Result Tree ParseEnd → Type 0
 Meets tokens r = MeetsWeight tokens r
 

@@ -49,7 +49,7 @@ module_head d long = do
   names ← path d long
   pure (heads.Module word.start names)
 
--- the head of a class or module, and the separator behind it
+-- the head of a class or module, and the separator after it
 unfoldable pub namespace_head : ℕ → Bool → Parser Head
 namespace_head d long = λ i.
     (if sees shape.Class i then class_head d long >>= (λ h. expect shape.Separator >>= (λ _. pure h)) else module_head d long >>= (λ h. expect shape.Separator >>= (λ _. pure h))) i
@@ -82,7 +82,7 @@ ends_by None = true
 abbrev pub ends : List Token → Bool
 ends i = ends_by (peek i)
 
--- Behind the statements `found` and the separators behind them. The number bounds the statements.
+-- After the statements `found` and the separators after them. The number bounds the statements.
 unfoldable pub statements_from : Parser Tree → ℕ → List Tree → Parser (List Tree)
 statements_from one zero found = refuse
 statements_from one (suc n) found = λ i.

@@ -21,7 +21,7 @@ use Rattle.rb_decl.specs.declared.method.Head.{Head}
 
 -- ---- the visibility
 
--- the visibility that the word gives to the method behind it
+-- the visibility that the word gives to the method after it
 abbrev pub visibility_of : List ℕ → Option Visibility
 visibility_of words =
     if bytes_eq words (codes "private") then Some visible.Private
@@ -76,7 +76,7 @@ operator_name c span tokens rest =
 abbrev pub setter : List ℕ → List ℕ
 setter words = words ++ codes "="
 
--- a name, perhaps with `=` behind it
+-- a name, perhaps with `=` after it
 unfoldable pub plain_name : List ℕ → Span → Parser PlacedName
 plain_name words span = λ i.
     if sees shape.Assign i then (expect shape.Assign >>= (λ equals. pure (record { name = setter words; span = record { start = span.start; end = equals.end } }))) i

@@ -18,11 +18,11 @@ unfoldable pub constant : Parser PlacedName
 constant [] = Err []
 constant (t ∷ ts) = constant_as t ts t.kind
 
--- a path goes on behind a name
+-- a path goes on after a name
 abbrev pub goes_on : Bool → List Token → Bool
 goes_on long i = long && sees shape.Scope i
 
--- Behind the names `found` and, but for the first, a `::`. A path that is not long has one name. The number bounds the names.
+-- After the names `found` and, but for the first, a `::`. A path that is not long has one name. The number bounds the names.
 unfoldable pub path_from : Bool → ℕ → List PlacedName → Parser (List PlacedName)
 path_from long zero found = refuse
 path_from long (suc n) found =

@@ -18,14 +18,14 @@ use Rattle.rb_decl.specs.declared.parameter.Stage.TheVariants as stages
 
 -- ---- what the parameters so far say about the next one
 
--- which parameters may come behind one of this kind
-abbrev pub stage_behind : ParamKind → Stage
-stage_behind param_kind.Required = stages.Required
-stage_behind param_kind.Optional = stages.Optional
-stage_behind param_kind.Key = stages.Keyword
-stage_behind param_kind.KeyOptional = stages.Keyword
-stage_behind param_kind.Block = stages.Block
-stage_behind param_kind.Rest = stages.Keyword
+-- which parameters may come after one of this kind
+abbrev pub stage_after : ParamKind → Stage
+stage_after param_kind.Required = stages.Required
+stage_after param_kind.Optional = stages.Optional
+stage_after param_kind.Key = stages.Keyword
+stage_after param_kind.KeyOptional = stages.Keyword
+stage_after param_kind.Block = stages.Block
+stage_after param_kind.Rest = stages.Keyword
 
 -- the name is one of these
 abbrev pub is_among : List (List ℕ) → List ℕ → Bool
@@ -60,17 +60,17 @@ is_last _ = false
 abbrev pub parameter_of : ParamKind → List ℕ → Span → Option Tree → Parameter Tree
 parameter_of k name span default = record { kind = k; name = name; span = span; default = default }
 
--- behind the name of a parameter that is no keyword
+-- after the name of a parameter that is no keyword
 unfoldable pub plain : ℕ → Stage → List ℕ → Span → Parser (Parameter Tree)
 plain d stage words span = λ i.
     if sees shape.Assign i then (tern d >>= (λ default. pure (parameter_of param_kind.Optional words span (Some default)))) (after i)
     else (if is_first stage then Ok (parameter_of param_kind.Required words span None, i) else Err i)
 
--- no default stands behind the label of a keyword
+-- no default stands after the label of a keyword
 abbrev pub has_no_default : List Token → Bool
 has_no_default i = sees shape.Comma i || sees shape.CloseParen i || sees shape.Separator i
 
--- behind the label of a keyword
+-- after the label of a keyword
 unfoldable pub keyword : ℕ → List ℕ → Span → Parser (Parameter Tree)
 keyword d words span = λ i.
     if has_no_default i then Ok (parameter_of param_kind.Key words span None, i)
@@ -84,7 +84,7 @@ abbrev block_as : List (List ℕ) → Token → List Token → TokenKind → Out
 block_as names t ts (kind.Identifier words) = block_by t ts (fresh names words)
 block_as names t ts _ = Err (t ∷ ts)
 
--- behind the `&` of a block
+-- after the `&` of a block
 unfoldable pub block : List (List ℕ) → Parser (Parameter Tree)
 block names [] = Err []
 block names (t ∷ ts) = block_as names t ts t.kind
@@ -103,45 +103,45 @@ parameter_as d stage names t ts (kind.Label words) = keyword_by d t ts (fresh na
 parameter_as d stage names t ts kind.Ampersand = block names ts
 parameter_as d stage names t ts _ = Err (t ∷ ts)
 
--- a parameter behind others that have these names and leave this stage
+-- a parameter after others that have these names and leave this stage
 unfoldable pub parameter : ℕ → Stage → List (List ℕ) → Parser (Parameter Tree)
 parameter d stage names [] = Err []
 parameter d stage names (t ∷ ts) = parameter_as d stage names t ts t.kind
 
 -- ---- rows of parameters
 
--- separators may stand behind a comma in brackets alone
-abbrev pub behind_comma : Bool → List Token → List Token
-behind_comma in_brackets i = if in_brackets then skip_separators (after i) else after i
+-- separators may stand after a comma in brackets alone
+abbrev pub after_comma : Bool → List Token → List Token
+after_comma in_brackets i = if in_brackets then skip_separators (after i) else after i
 
--- a row is over behind a parameter that leaves this stage
+-- a row is over after a parameter that leaves this stage
 abbrev pub is_over : Stage → List Token → Bool
 is_over stage i = is_last stage || not (sees shape.Comma i)
 
--- Behind the parameters `found`, which have these names, and, but for the first, a comma. The number bounds the parameters.
+-- After the parameters `found`, which have these names, and, but for the first, a comma. The number bounds the parameters.
 unfoldable pub row_from : ℕ → Bool → ℕ → Stage → List (List ℕ) → List (Parameter Tree) → Parser (List (Parameter Tree))
 row_from d in_brackets zero stage names found = refuse
 row_from d in_brackets (suc n) stage names found =
     parameter d stage names >>= (λ x i.
-    if is_over (stage_behind x.kind) i then Ok (found ++ x ∷ [], i)
-    else row_from d in_brackets n (stage_behind x.kind) (noted names x.name) (found ++ x ∷ []) (behind_comma in_brackets i))
+    if is_over (stage_after x.kind) i then Ok (found ++ x ∷ [], i)
+    else row_from d in_brackets n (stage_after x.kind) (noted names x.name) (found ++ x ∷ []) (after_comma in_brackets i))
 
 -- one or more parameters with commas between
 unfoldable pub row : ℕ → Bool → Parser (List (Parameter Tree))
 row d in_brackets = row_from d in_brackets d stages.Required [] []
 
--- parameters in brackets, behind the opening one and separators
+-- parameters in brackets, after the opening one and separators
 unfoldable pub bracketed : ℕ → Parser (List (Parameter Tree))
 bracketed d = λ i.
     if sees shape.CloseParen i then Ok ([], after i)
     else (row d true >>= (λ found j. (expect shape.CloseParen >>= (λ _. pure found)) (skip_separators j))) i
 
--- parameters without brackets, behind which a separator stands
+-- parameters without brackets, after which a separator stands
 unfoldable pub bare : ℕ → Parser (List (Parameter Tree))
 bare d = λ i.
     if sees shape.Separator i then Ok ([], i)
     else (row d false >>= (λ found j. if sees shape.Separator j then Ok (found, j) else Err j)) i
 
--- the parameters of a method, behind its name
+-- the parameters of a method, after its name
 unfoldable pub parameters_of : ℕ → Parser (List (Parameter Tree))
 parameters_of d = λ i. if sees shape.OpenParen i then bracketed d (skip_separators (after i)) else bare d i

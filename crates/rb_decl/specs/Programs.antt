@@ -10,7 +10,7 @@ use Rattle.rb_weight.specs.Scans.{first_too_deep}
 use Rattle.rb_weight.specs.Weights.{DeepAt}
 use Rattle.rb_decl.specs.Items.{item, statements, body_of}
 
--- an answer, or the same refusal; want of memory may take the place of both
+-- an answer, or the same refusal; or memory ran out
 abbrev pub Reads : Result Tree Stop → Result Tree (List Token) → Type 0
 Reads (Ok x) answer = answer ≡ Ok x
 Reads (Err (Refused rest)) answer = answer ≡ Err rest.now

@@ -86,7 +86,7 @@ fn module_head<'a>(alloc: Global, depth: usize, long: bool, tokens: &'a [Token])
     Ok((Head::Module { start, path }, rest))
 }
 
-/// The head of a class or module, and the separator behind it.
+/// The head of a class or module, and the separator after it.
 #[tactic(auto, unfolding(crate::specs::Items::namespace_head))]
 fn namespace_head<'a>(
     alloc: Global,
@@ -219,12 +219,12 @@ pub fn statements<'a>(
         if ends(rest) {
             return Ok((found, rest));
         }
-        let (next, behind) = item(alloc, depth, long, rest)?;
+        let (next, left) = item(alloc, depth, long, rest)?;
         found.push(next)?;
-        if !sees(Shape::Separator, behind) {
-            return Ok((found, behind));
+        if !sees(Shape::Separator, left) {
+            return Ok((found, left));
         }
-        rest = skip_separators(behind);
+        rest = skip_separators(left);
     }
     Err(Stop::Refused(rest))
 }

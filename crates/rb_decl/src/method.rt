@@ -12,7 +12,7 @@ use rb_tree::token::{Shape, Token, TokenKind};
 use srb_terms::{Boxed, Items, Name, NoMemory, Span, Words};
 use std::alloc::Global;
 
-/// The visibility that the word gives to the method behind it.
+/// The visibility that the word gives to the method after it.
 fn visibility_of(words: &[u8]) -> Option<Visibility>
     ensures { result ≡ spec.visibility_of words.now }
 {
@@ -106,7 +106,7 @@ fn setter(alloc: Global, words: &Words) -> Result<Name, NoMemory>
     Name::from_string(text)
 }
 
-/// A name, perhaps with `=` behind it.
+/// A name, perhaps with `=` after it.
 #[tactic(auto, unfolding(crate::specs::Methods::plain_name))]
 fn plain_name<'a>(
     alloc: Global,

@@ -31,7 +31,7 @@ pub fn constant<'a>(tokens: &'a [Token]) -> Read<'a, PlacedName>
     }
 }
 
-/// Whether a path goes on behind a name.
+/// Whether a path goes on after a name.
 fn goes_on(long: bool, tokens: &[Token]) -> bool
     ensures { result ≡ spec.goes_on long tokens.now }
 {
@@ -50,12 +50,12 @@ pub fn path<'a>(
     let mut found = Items::new(alloc);
     let mut rest = tokens;
     for _turn in 0..depth {
-        let (name, behind) = constant(rest)?;
+        let (name, left) = constant(rest)?;
         found.push(name)?;
-        if !goes_on(long, behind) {
-            return Ok((found, behind));
+        if !goes_on(long, left) {
+            return Ok((found, left));
         }
-        rest = after(behind);
+        rest = after(left);
     }
     Err(Stop::Refused(rest))
 }

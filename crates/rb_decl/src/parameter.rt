@@ -25,9 +25,9 @@ pub enum Stage {
     Block,
 }
 
-/// Which parameters may come behind one of this kind.
-fn stage_behind(kind: ParamKind) -> Stage
-    ensures { result ≡ spec.stage_behind kind }
+/// Which parameters may come after one of this kind.
+fn stage_after(kind: ParamKind) -> Stage
+    ensures { result ≡ spec.stage_after kind }
 {
     match kind {
         ParamKind::Required => Stage::Required,
@@ -102,7 +102,7 @@ fn parameter_of(kind: ParamKind, name: Name, span: Span, default: Option<Tree>) 
     }
 }
 
-/// Behind the name of a parameter that is no keyword.
+/// After the name of a parameter that is no keyword.
 #[tactic(auto, unfolding(crate::specs::Parameters::plain))]
 fn plain<'a>(
     alloc: Global,
@@ -127,14 +127,14 @@ fn plain<'a>(
     Ok((parameter_of(ParamKind::Required, name, span, None), tokens))
 }
 
-/// Whether no default stands behind the label of a keyword.
+/// Whether no default stands after the label of a keyword.
 fn has_no_default(tokens: &[Token]) -> bool
     ensures { result ≡ spec.has_no_default tokens.now }
 {
     sees(Shape::Comma, tokens) || sees(Shape::CloseParen, tokens) || sees(Shape::Separator, tokens)
 }
 
-/// Behind the label of a keyword.
+/// After the label of a keyword.
 #[tactic(auto, unfolding(crate::specs::Parameters::keyword))]
 fn keyword<'a>(
     alloc: Global,
@@ -155,7 +155,7 @@ fn keyword<'a>(
     ))
 }
 
-/// Behind the `&` of a block.
+/// After the `&` of a block.
 #[tactic(auto, unfolding(crate::specs::Parameters::block))]
 fn block<'a>(names: &IndexSet<Name>, tokens: &'a [Token]) -> Read<'a, Parameter<Tree>>
     ensures { Gives (λ x. (x.0, x.1.now)) result (spec.block names.now.keys tokens.now) }
@@ -175,7 +175,7 @@ fn block<'a>(names: &IndexSet<Name>, tokens: &'a [Token]) -> Read<'a, Parameter<
     }
 }
 
-/// A parameter behind others that have these names and leave this stage.
+/// A parameter after others that have these names and leave this stage.
 #[tactic(auto, unfolding(crate::specs::Parameters::parameter))]
 fn parameter<'a>(
     alloc: Global,
@@ -218,9 +218,9 @@ fn parameter<'a>(
     }
 }
 
-/// The separators behind a comma, which may stand there in brackets alone.
-fn behind_comma(in_brackets: bool, tokens: &[Token]) -> &[Token]
-    ensures { result.now ≡ spec.behind_comma in_brackets tokens.now }
+/// The separators after a comma, which may stand there in brackets alone.
+fn after_comma(in_brackets: bool, tokens: &[Token]) -> &[Token]
+    ensures { result.now ≡ spec.after_comma in_brackets tokens.now }
 {
     if in_brackets {
         skip_separators(after(tokens))
@@ -229,7 +229,7 @@ fn behind_comma(in_brackets: bool, tokens: &[Token]) -> &[Token]
     }
 }
 
-/// Whether a row is over behind a parameter that leaves this stage.
+/// Whether a row is over after a parameter that leaves this stage.
 fn is_over(stage: Stage, tokens: &[Token]) -> bool
     ensures { result ≡ spec.is_over stage tokens.now }
 {
@@ -250,19 +250,19 @@ pub fn row<'a>(
     let mut stage = Stage::Required;
     let mut rest = tokens;
     for _turn in 0..depth {
-        let (next, behind) = parameter(alloc, depth, stage, &names, rest)?;
-        stage = stage_behind(next.kind);
+        let (next, left) = parameter(alloc, depth, stage, &names, rest)?;
+        stage = stage_after(next.kind);
         note(&mut names, &next.name)?;
         found.push(next)?;
-        if is_over(stage, behind) {
-            return Ok((found, behind));
+        if is_over(stage, left) {
+            return Ok((found, left));
         }
-        rest = behind_comma(in_brackets, behind);
+        rest = after_comma(in_brackets, left);
     }
     Err(Stop::Refused(rest))
 }
 
-/// Parameters in brackets, behind the opening one.
+/// Parameters in brackets, after the opening one.
 #[tactic(auto, unfolding(crate::specs::Parameters::bracketed))]
 fn bracketed<'a>(
     alloc: Global,
@@ -294,7 +294,7 @@ fn bare<'a>(alloc: Global, depth: usize, tokens: &'a [Token]) -> Read<'a, Items<
     Ok((found, rest))
 }
 
-/// The parameters of a method, behind its name.
+/// The parameters of a method, after its name.
 #[tactic(auto, unfolding(crate::specs::Parameters::parameters_of))]
 pub fn parameters<'a>(
     alloc: Global,

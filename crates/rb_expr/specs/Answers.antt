@@ -10,7 +10,7 @@ use Rattle.rb_expr.specs.Reading.{Outcome}
 use Rattle.rb_expr.specs.Rules.{longest_body, tern}
 use Rattle.rb_weight.specs.Scans.{first_too_deep}
 
--- a call answers what is said; want of memory may take its place
+-- a call answers what is said; or memory ran out
 abbrev pub Answers : Result (Tree × ℕ) ParseEnd → Result (Tree × ℕ) ParseEnd → Type 0
 Answers (Ok x) said = said ≡ Ok x
 Answers (Err (Bad at)) said = said ≡ Err (Bad at)
@@ -80,10 +80,10 @@ answered_by form tokens from (Some deep) = cut form tokens from deep
 unfoldable pub answered : Rule → List Token → ℕ → ℕ → ℕ → Result (Tree × ℕ) ParseEnd
 answered form tokens from weight here = answered_by form tokens from (first_too_deep tokens from weight here)
 
--- the longest body without declarations, and the place behind it
+-- the longest body without declarations, and the place after it
 abbrev pub expr_of : List Token → ℕ → ℕ → ℕ → Bool → Result (Tree × ℕ) ParseEnd
 expr_of tokens from weight here constants = answered (rule.Body constants) tokens from weight here
 
--- an expression with operators, at most `? :`, and the place behind it
+-- an expression with operators, at most `? :`, and the place after it
 abbrev pub tern_of : List Token → ℕ → ℕ → ℕ → Result (Tree × ℕ) ParseEnd
 tern_of tokens from weight here = answered rule.Tern tokens from weight here

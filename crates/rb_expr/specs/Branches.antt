@@ -16,7 +16,7 @@ use Rattle.rb_expr.specs.declared.form.Form.{Form}
 use Rattle.rb_expr.specs.declared.form.Form.TheVariants as form
 use Rattle.rb_expr.specs.Reading.{Parser, ◌>>=◌, ◌>>◌, ◌<$>◌, pure, refuse, sees, after, skip_separators, take_token, expect, named}
 
--- a `then` behind a separator, if one comes next
+-- a `then` after a separator, if one comes next
 abbrev pub after_then : List Token → List Token
 after_then tokens = if sees shape.Then tokens then after tokens else tokens
 
@@ -29,7 +29,7 @@ then_word = λ tokens. if sees shape.Then tokens then expect shape.Then tokens
 unfoldable pub do_word : Parser Span
 do_word = λ tokens. if sees shape.Do tokens then expect shape.Do tokens else expect shape.Separator tokens
 
--- no pattern stands behind a `rescue`
+-- no pattern stands after a `rescue`
 unfoldable pub rescues_all : List Token → Bool
 rescues_all tokens = sees shape.Arrow tokens || (sees shape.Then tokens || sees shape.Separator tokens)
 
@@ -146,10 +146,10 @@ module _ (nested : Form → Bool → Parser Tree) (turns : ℕ) (takes_do : Bool
   unfoldable pub rescues : Parser (List (Rescue Tree))
   rescues = rescues_from turns []
 
-  -- an `else` stands behind a `rescue` alone
-  unfoldable pub otherwise_behind : List (Rescue Tree) → Parser (Option Tree)
-  otherwise_behind [] = pure None
-  otherwise_behind (clause ∷ clauses) = otherwise
+  -- an `else` stands after a `rescue` alone
+  unfoldable pub otherwise_after : List (Rescue Tree) → Parser (Option Tree)
+  otherwise_after [] = pure None
+  otherwise_after (clause ∷ clauses) = otherwise
 
   unfoldable pub ensure : Parser (Option Tree)
   ensure = λ tokens. if sees shape.Ensure tokens then (Some <$> nested form.Body takes_do) (after tokens) else Ok (None, tokens)
@@ -159,7 +159,7 @@ module _ (nested : Form → Bool → Parser Tree) (turns : ℕ) (takes_do : Bool
   guarded = do
     body ← nested form.Body takes_do
     clauses ← rescues
-    other ← otherwise_behind clauses
+    other ← otherwise_after clauses
     last ← ensure
     pure (record { body = body; rescues = clauses; otherwise = other; ensure = last })
 

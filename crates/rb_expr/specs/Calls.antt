@@ -10,7 +10,7 @@ use Rattle.rb_tree.specs.declared.token.Shape.{Shape}
 use Rattle.rb_tree.specs.declared.token.Shape.TheVariants as shape
 use Rattle.rb_expr.specs.declared.form.Form.{Form}
 use Rattle.rb_expr.specs.declared.form.Form.TheVariants as form
-use Rattle.rb_expr.specs.Lists.{order_of, is_keyword, end_of_argument, passes_block, behind_argument, goes_on, noted, fresh_name}
+use Rattle.rb_expr.specs.Lists.{order_of, is_keyword, end_of_argument, passes_block, after_argument, goes_on, noted, fresh_name}
 use Rattle.rb_expr.specs.Reading.{Parser, ◌>>=◌, ◌>>◌, ◌<$>◌, pure, refuse, peek, sees, after, skip_separators, expect, named}
 
 -- `nested` reads a form that nests: the flag says whether its calls may take a `do`. Loops take at most `turns` turns. Calls
@@ -35,7 +35,7 @@ module _ (nested : Form → Bool → Parser Tree) (turns : ℕ) (takes_do : Bool
     value ← nested form.Tern takes
     pure (argument.Positional value)
 
-  -- keyword arguments stand behind those by place
+  -- keyword arguments stand after those by place
   abbrev pub argument_by : Bool → Bool → Option Shape → Parser (Argument Tree)
   argument_by keywords takes (Some shape.Label) = keyword takes
   argument_by keywords takes (Some shape.Ampersand) = passed_block takes
@@ -49,7 +49,7 @@ module _ (nested : Form → Bool → Parser Tree) (turns : ℕ) (takes_do : Bool
   listed_from closer zero keywords found = refuse
   listed_from closer (suc n) keywords found = do
     next ← one_argument keywords true
-    closing ← behind_argument closer (order_of next)
+    closing ← after_argument closer (order_of next)
     elim closing [
       | Some place ↦ pure (found ++ next ∷ [], place)
       | None ↦ listed_from closer n (is_keyword (order_of next)) (found ++ next ∷ [])
@@ -67,7 +67,7 @@ module _ (nested : Form → Bool → Parser Tree) (turns : ℕ) (takes_do : Bool
     expect shape.OpenParen
     (λ tokens. in_brackets (skip_separators tokens))
 
-  -- behind the `[` of an index
+  -- after the `[` of an index
   unfoldable pub index_arguments : Parser (List (Argument Tree) × Span)
   index_arguments = λ tokens. listed shape.CloseBracket (skip_separators tokens)
 
@@ -76,7 +76,7 @@ module _ (nested : Form → Bool → Parser Tree) (turns : ℕ) (takes_do : Bool
   optional_brackets end = λ tokens.
       if sees shape.OpenParen tokens then ((λ found. (Some found.0, found.1.end)) <$> brackets) tokens else Ok ((None, end), tokens)
 
-  -- without brackets; a `do` behind them belongs to the call
+  -- without brackets; a `do` after them belongs to the call
   unfoldable pub bare_from : ℕ → Bool → List (Argument Tree) → Parser (List (Argument Tree) × ℕ)
   bare_from zero keywords found = refuse
   bare_from (suc n) keywords found = do
@@ -89,7 +89,7 @@ module _ (nested : Form → Bool → Parser Tree) (turns : ℕ) (takes_do : Bool
 
   -- ---- blocks
 
-  -- behind some names, in a list of the names alone and with their places
+  -- after some names, in a list of the names alone and with their places
   unfoldable pub bar_names_from : ℕ → List (List ℕ) → List PlacedName → Parser (List PlacedName)
   bar_names_from zero names found = refuse
   bar_names_from (suc n) names found = do
@@ -117,7 +117,7 @@ module _ (nested : Form → Bool → Parser Tree) (turns : ℕ) (takes_do : Bool
   unfoldable pub any_block : Parser (Option (Block Tree))
   any_block = λ tokens. if sees shape.OpenBrace tokens then (Some <$> block shape.OpenBrace shape.CloseBrace) tokens else optional_do tokens
 
-  -- a call that is given a block as an argument takes none behind it
+  -- a call that is given a block as an argument takes none after it
   unfoldable pub optional_block : Option (List (Argument Tree)) → Parser (Option (Block Tree))
   optional_block (Some given) = if passes_block given then pure None else any_block
   optional_block None = any_block

@@ -1,4 +1,4 @@
--- What stands between and behind the elements of lists, and what their kinds say.
+-- What stands between and after the elements of lists, and what their kinds say.
 use Rattle.std.specs.Prelude.{ℕ, ◌-◌, Bool, true, false, not, ◌&&◌, if◌then◌else◌, bytes_eq, List, [], ◌∷◌, ◌++◌, length, slice_get, Option, Some, None, Ok, Err}
 use Rattle.std.specs.List.{list_any}
 use Rattle.srb_terms.specs.declared.span.Span.{Span}
@@ -68,22 +68,22 @@ takes_comma closer = not (same_shape closer shape.CloseParen)
 unfoldable pub closed : Shape → Parser (Option Span)
 closed closer = λ tokens. (Some <$> expect closer) (skip_separators tokens)
 
--- behind a comma and separators
-unfoldable pub behind_comma : Shape → Parser (Option Span)
-behind_comma closer = λ tokens. if takes_comma closer && sees closer tokens then closed closer tokens else Ok (None, tokens)
+-- after a comma and separators
+unfoldable pub after_comma : Shape → Parser (Option Span)
+after_comma closer = λ tokens. if takes_comma closer && sees closer tokens then closed closer tokens else Ok (None, tokens)
 
 -- The closing bracket and `Some`, or a comma and `None`: then an element follows.
-unfoldable pub behind_element : Shape → Parser (Option Span)
-behind_element closer = λ tokens.
-    if sees shape.Comma tokens then behind_comma closer (skip_separators (after tokens)) else closed closer tokens
+unfoldable pub after_element : Shape → Parser (Option Span)
+after_element closer = λ tokens.
+    if sees shape.Comma tokens then after_comma closer (skip_separators (after tokens)) else closed closer tokens
 
-unfoldable pub behind_last : Shape → Parser (Option Span)
-behind_last closer = λ tokens.
+unfoldable pub after_last : Shape → Parser (Option Span)
+after_last closer = λ tokens.
     if takes_comma closer && sees shape.Comma tokens then closed closer (after tokens) else closed closer tokens
 
 -- an argument that is given as a block is the last
-unfoldable pub behind_argument : Shape → Order → Parser (Option Span)
-behind_argument closer given = if is_block given then behind_last closer else behind_element closer
+unfoldable pub after_argument : Shape → Order → Parser (Option Span)
+after_argument closer given = if is_block given then after_last closer else after_element closer
 
 -- without brackets
 unfoldable pub goes_on : Order → List Token → Bool

@@ -1,4 +1,4 @@
--- Operands: literals, names, brackets, calls, and the suffixes behind them.
+-- Operands: literals, names, brackets, calls, and the suffixes after them.
 use Rattle.std.specs.Prelude.{ℕ, zero, suc, Bool, true, if◌then◌else◌, List, [], ◌∷◌, ◌++◌, Option, Some, None, Ok}
 use Rattle.srb_terms.specs.declared.span.Span.{Span}
 use Rattle.rb_tree.specs.Trees.{span_of}
@@ -25,7 +25,7 @@ use Rattle.rb_expr.specs.declared.form.Form.{Form}
 use Rattle.rb_expr.specs.declared.form.Form.TheVariants as form
 use Rattle.rb_expr.specs.Branches.{branch, repeated, choice, guards}
 use Rattle.rb_expr.specs.Calls.{index_arguments, optional_brackets, optional_block}
-use Rattle.rb_expr.specs.Lists.{behind_element, span_of_suffix, end_with}
+use Rattle.rb_expr.specs.Lists.{after_element, span_of_suffix, end_with}
 use Rattle.rb_expr.specs.Reading.{Parser, ◌>>=◌, ◌>>◌, ◌<$>◌, pure, refuse, peek, sees, start_of, skip_separators, take_token, expect, named, worded}
 use Rattle.rb_expr.specs.Shapes.{is_signed, is_index}
 
@@ -40,7 +40,7 @@ number_by mark start (Some shape.Float) = do
   pure (tree.Float mark digits.0 (record { start = start; end = digits.1.end }))
 number_by mark start _ = refuse
 
--- a number behind its sign, if it has one; the number is where both begin
+-- a number after its sign, if it has one; the number is where both begin
 unfoldable pub number : Option Sign → ℕ → Parser Tree
 number mark start = λ tokens. number_by mark start (peek tokens) tokens
 
@@ -54,7 +54,7 @@ signed mark = do
   place ← take_token
   touching mark place
 
--- no `**` behind a number with a `-`: there the `-` stands in front of the whole power
+-- no `**` after a number with a `-`: there the `-` stands in front of the whole power
 unfoldable pub unraised : Tree → Parser Tree
 unraised value = λ tokens. if sees shape.Power tokens then refuse tokens else Ok (value, tokens)
 
@@ -97,7 +97,7 @@ word = λ tokens. (word_by (peek tokens) <$> take_token) tokens
 
 -- ---- with suffixes
 
--- a name with what stands behind it: where nothing does, the name alone
+-- a name with what stands after it: where nothing does, the name alone
 abbrev pub call_of : PlacedName → Option (List (Argument Tree)) → ℕ → Option (Block Tree) → Tree
 call_of name None end None = tree.Name name.name name.span
 call_of name None end (Some block) = tree.Call name.name name.span None (Some block) (record { start = name.span.start; end = end_with (Some block) end })
@@ -118,7 +118,7 @@ module _ (nested : Form → Bool → Parser Tree) (turns : ℕ) (takes_do : Bool
     closing ← expect shape.CloseBrace
     pure (piece.Code body (record { start = opening.start; end = closing.end }))
 
-  -- behind some pieces, the last of which ends at the second number; the first is where the string begins
+  -- after some pieces, the last of which ends at the second number; the first is where the string begins
   unfoldable pub pieces_from : ℕ → ℕ → ℕ → List (Piece Tree) → Parser Tree
   pieces_from start end zero found = refuse
   pieces_from start end (suc n) found = λ tokens.
@@ -161,7 +161,7 @@ module _ (nested : Form → Bool → Parser Tree) (turns : ℕ) (takes_do : Bool
   elements_from start zero found = refuse
   elements_from start (suc n) found = do
     element ← nested form.Tern true
-    closing ← behind_element shape.CloseBracket
+    closing ← after_element shape.CloseBracket
     elim closing [
       | Some place ↦ pure (tree.Array (found ++ element ∷ []) (record { start = start; end = place.end }))
       | None ↦ elements_from start n (found ++ element ∷ [])
@@ -170,7 +170,7 @@ module _ (nested : Form → Bool → Parser Tree) (turns : ℕ) (takes_do : Bool
   unfoldable pub elements : ℕ → Parser Tree
   elements start = elements_from start turns []
 
-  -- behind the opening bracket, which begins at the number
+  -- after the opening bracket, which begins at the number
   unfoldable pub array_from : ℕ → Parser Tree
   array_from start = λ tokens. if sees shape.CloseBracket tokens
       then ((λ closing. tree.Array [] (record { start = start; end = closing.end })) <$> expect shape.CloseBracket) tokens
@@ -201,7 +201,7 @@ module _ (nested : Form → Bool → Parser Tree) (turns : ℕ) (takes_do : Bool
   pairs_from start zero found = refuse
   pairs_from start (suc n) found = do
     next ← a_pair
-    closing ← behind_element shape.CloseBrace
+    closing ← after_element shape.CloseBrace
     elim closing [
       | Some place ↦ pure (tree.Hash (found ++ next ∷ []) (record { start = start; end = place.end }))
       | None ↦ pairs_from start n (found ++ next ∷ [])

@@ -33,7 +33,7 @@ module _ (nested : Form → Bool → Parser Tree) (turns : ℕ) (takes_do : Bool
     operand ← nested form takes_do
     pure (tree.Unary operator operand (from_to mark (span_of operand)))
 
-  -- an operator and what stands behind it, which is read as this form
+  -- an operator and what stands after it, which is read as this form
   unfoldable pub binary_operation : Binary → Form → Tree → Parser Tree
   binary_operation operator form left = do
     mark ← take_token
@@ -60,7 +60,7 @@ module _ (nested : Form → Bool → Parser Tree) (turns : ℕ) (takes_do : Bool
   unfoldable pub negated : Parser Tree
   negated = λ tokens. if is_negation tokens then unary_operation unary.Minus form.Negated tokens else power tokens
 
-  -- operations behind an operand, with operators whose levels lie between these two
+  -- operations after an operand, with operators whose levels lie between these two
   abbrev pub climb_by : (ℕ → Tree → Parser Tree) → Tree → Option Binary → Parser Tree
   climb_by again left None = pure left
   climb_by again left (Some operator) = do
@@ -97,8 +97,8 @@ module _ (nested : Form → Bool → Parser Tree) (turns : ℕ) (takes_do : Bool
     chosen condition
 
   -- the rest of an expression that begins by this operand
-  unfoldable pub tern_behind : Tree → Parser Tree
-  tern_behind first = do
+  unfoldable pub tern_after : Tree → Parser Tree
+  tern_after first = do
     left ← powered first
     condition ← climb 1 left
     chosen condition

@@ -11,20 +11,20 @@ use Rattle.rb_tree.specs.declared.token.Shape.TheVariants as shape
 use Rattle.rb_expr.specs.declared.reading.Stop.{Stop}
 use Rattle.rb_expr.specs.declared.reading.Stop.TheVariants.{Memory, Refused}
 
--- what was read and the tokens behind it, or a refusal: the tokens from the refused one on
+-- what was read and the tokens after it, or a refusal: the tokens from the refused one on
 abbrev pub Outcome : Type 0 → Type 0
 Outcome A = Result (A × List Token) (List Token)
 
 abbrev pub Parser : Type 0 → Type 0
 Parser A = List Token → Outcome A
 
--- a function answers an outcome; want of memory may take its place
+-- a function answers an outcome; or memory ran out
 abbrev pub Gives : {A B : Type 0} → (A → B × List Token) → Result A Stop → Outcome B → Type 0
 Gives f (Ok x) outcome = outcome ≡ Ok (f x)
 Gives f (Err Memory) outcome = Unit {0}
 Gives f (Err (Refused rest)) outcome = outcome ≡ Err rest.now
 
--- want of memory
+-- out of memory
 abbrev pub IsMemory : Stop → Type 0
 IsMemory stop = stop ≡ Memory
 

@@ -134,7 +134,7 @@ level_of binary.Slash = 9
 level_of binary.Percent = 9
 level_of binary.Power = 10
 
--- the tightest level behind an operation: `==` and its like don't stand in a row, all others do
+-- the tightest level after an operation: `==` and its like don't stand in a row, all others do
 abbrev pub ceiling : Binary → ℕ
 ceiling operator = if level_of operator == 3 then 2 else level_of operator
 
@@ -214,6 +214,6 @@ abbrev pub is_index_after : Option Token → List Token → Bool
 is_index_after None rest = false
 is_index_after (Some before) rest = closes (shape_of before.kind) || touches before.span rest
 
--- A `[` touches the token before it, or stands behind a closing bracket. `rest` is what is left of the tokens.
+-- A `[` touches the token before it, or stands after a closing bracket. `rest` is what is left of the tokens.
 unfoldable pub is_index : List Token → List Token → Bool
 is_index tokens rest = is_index_after (slice_get tokens (length tokens - length rest - 1)) rest

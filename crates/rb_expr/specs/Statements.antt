@@ -25,7 +25,7 @@ use Rattle.rb_expr.specs.declared.form.Form.TheVariants as form
 use Rattle.rb_expr.specs.Calls.{bare, command_block}
 use Rattle.rb_expr.specs.Lists.{end_with}
 use Rattle.rb_expr.specs.Operands.{post}
-use Rattle.rb_expr.specs.Operators.{across, tern, tern_behind}
+use Rattle.rb_expr.specs.Operators.{across, tern, tern_after}
 use Rattle.rb_expr.specs.Reading.{Parser, ◌>>=◌, ◌>>◌, ◌<$>◌, pure, refuse, peek, sees, start_of, skip_separators, take_token, expect}
 use Rattle.rb_expr.specs.Shapes.{begins_bare, begins_statement, has_value, has_prefix, jump_of, modifier_of, assigning_of, next_is}
 
@@ -105,7 +105,7 @@ repeats modifier.Unless = false
 repeats modifier.While = true
 repeats modifier.Until = true
 
--- the modifier may stand behind the statement
+-- the modifier may stand after the statement
 unfoldable pub may_modify : Modifier → Tree → Bool
 may_modify word inner = not (repeats word) || not (is_begin inner)
 
@@ -113,9 +113,9 @@ abbrev pub allowed : Tree → Option Modifier → Option Modifier
 allowed inner None = None
 allowed inner (Some word) = if may_modify word inner then Some word else None
 
--- the modifier that the next token is, if it may stand behind the statement
-unfoldable pub modifier_behind : Tree → Option Shape → Option Modifier
-modifier_behind inner next = allowed inner (modifier_of next)
+-- the modifier that the next token is, if it may stand after the statement
+unfoldable pub modifier_after : Tree → Option Shape → Option Modifier
+modifier_after inner next = allowed inner (modifier_of next)
 
 -- where a tree ends, or the place where none is
 abbrev pub end_or : ℕ → Option Tree → ℕ
@@ -126,7 +126,7 @@ end_or end (Some value) = (span_of value).end
 abbrev pub body_start : List Token → ℕ
 body_start tokens = if begins_statement tokens then start_of tokens else 0
 
--- a body of these statements ends behind the last: a `rescue` does not stand there without a separator
+-- a body of these statements ends after the last: a `rescue` does not stand there without a separator
 unfoldable pub ended : List Tree → Span → Parser Tree
 ended found span = λ tokens. if sees shape.Rescue tokens then refuse tokens else Ok (tree.Body found span, tokens)
 
@@ -157,7 +157,7 @@ module _ (nested : Form → Bool → Parser Tree) (turns : ℕ) (takes_do : Bool
   followed_by first follower.Value = assigned first
   followed_by first (follower.Operator operator) = operator_assigned operator first
   followed_by first follower.Arguments = command first
-  followed_by first follower.Operators = tern_behind nested turns takes_do first
+  followed_by first follower.Operators = tern_after nested turns takes_do first
 
   -- what begins by this operand; the flag says whether a constant may be assigned to
   unfoldable pub followed : Bool → Tree → Parser Tree
@@ -201,7 +201,7 @@ module _ (nested : Form → Bool → Parser Tree) (turns : ℕ) (takes_do : Bool
 
   unfoldable pub modifiers_from : ℕ → Tree → Parser Tree
   modifiers_from zero inner = refuse
-  modifiers_from (suc n) inner = λ tokens. modifiers_by (modifiers_from n) inner (modifier_behind inner (peek tokens)) tokens
+  modifiers_from (suc n) inner = λ tokens. modifiers_by (modifiers_from n) inner (modifier_after inner (peek tokens)) tokens
 
   unfoldable pub modifiers : Tree → Parser Tree
   modifiers inner = modifiers_from turns inner
@@ -211,7 +211,7 @@ module _ (nested : Form → Bool → Parser Tree) (turns : ℕ) (takes_do : Bool
     inner ← simple constants
     modifiers inner
 
-  -- Statements behind others. The numbers are where the first begins and the last ends.
+  -- Statements after others. The numbers are where the first begins and the last ends.
   unfoldable pub body_from : Bool → ℕ → ℕ → ℕ → List Tree → Parser Tree
   body_from constants start end zero found = refuse
   body_from constants start end (suc n) found = λ tokens.

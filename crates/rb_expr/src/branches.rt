@@ -48,7 +48,7 @@ fn do_word<'a>(tokens: &'a [Token]) -> Read<'a, Span>
     }
 }
 
-/// Whether no pattern stands behind a `rescue`.
+/// Whether no pattern stands after a `rescue`.
 #[tactic(auto, unfolding(crate::specs::Branches::rescues_all))]
 fn rescues_all(tokens: &[Token]) -> bool
     ensures { result ≡ branches.rescues_all tokens.now }
@@ -104,9 +104,9 @@ impl<F: Fn(Global, usize, Form, bool, &[Token]) -> Result<(Tree, &[Token]), Stop
             if !sees(Shape::Elsif, rest) {
                 return Ok((found, rest));
             }
-            let (arm, behind) = self.elsif_arm(rest)?;
+            let (arm, left) = self.elsif_arm(rest)?;
             found.push(arm)?;
-            rest = behind;
+            rest = left;
         }
         Err(Stop::Refused(rest))
     }
@@ -195,12 +195,12 @@ impl<F: Fn(Global, usize, Form, bool, &[Token]) -> Result<(Tree, &[Token]), Stop
         let mut found = Items::new(self.alloc);
         let mut rest = tokens;
         for _turn in 0..self.depth {
-            let (pattern, behind) = self.form(Form::Tern, self.takes_do, rest)?;
+            let (pattern, left) = self.form(Form::Tern, self.takes_do, rest)?;
             found.push(pattern)?;
-            if !sees(Shape::Comma, behind) {
-                return Ok((found, behind));
+            if !sees(Shape::Comma, left) {
+                return Ok((found, left));
             }
-            rest = after(behind);
+            rest = after(left);
         }
         Err(Stop::Refused(rest))
     }
@@ -225,12 +225,12 @@ impl<F: Fn(Global, usize, Form, bool, &[Token]) -> Result<(Tree, &[Token]), Stop
         let mut found = Items::new(self.alloc);
         let mut rest = tokens;
         for _turn in 0..self.depth {
-            let (arm, behind) = self.when_arm(rest)?;
+            let (arm, left) = self.when_arm(rest)?;
             found.push(arm)?;
-            if !sees(Shape::When, behind) {
-                return Ok((found, behind));
+            if !sees(Shape::When, left) {
+                return Ok((found, left));
             }
-            rest = behind;
+            rest = left;
         }
         Err(Stop::Refused(rest))
     }
@@ -299,22 +299,22 @@ impl<F: Fn(Global, usize, Form, bool, &[Token]) -> Result<(Tree, &[Token]), Stop
             if !sees(Shape::Rescue, rest) {
                 return Ok((found, rest));
             }
-            let (clause, behind) = self.rescue_clause(rest)?;
+            let (clause, left) = self.rescue_clause(rest)?;
             found.push(clause)?;
-            rest = behind;
+            rest = left;
         }
         Err(Stop::Refused(rest))
     }
 
-    /// What stands behind `else`, if it comes next. It stands behind a `rescue` alone.
-    #[tactic(auto, unfolding(crate::specs::Branches::otherwise_behind))]
-    fn otherwise_behind<'a>(
+    /// What stands after `else`, if it comes next. It stands after a `rescue` alone.
+    #[tactic(auto, unfolding(crate::specs::Branches::otherwise_after))]
+    fn otherwise_after<'a>(
         &self,
         rescues: &Items<Rescue<Tree>>,
         tokens: &'a [Token],
     ) -> Read<'a, Option<Tree>>
         requires { Nests self.now.depth (F.pre self.now.nested) (F.post self.now.nested) }
-        ensures { Gives (λ x. (x.0, x.1.now)) result (branches.otherwise_behind (parsed self.now.depth) self.now.depth self.now.takes_do rescues.now tokens.now) }
+        ensures { Gives (λ x. (x.0, x.1.now)) result (branches.otherwise_after (parsed self.now.depth) self.now.depth self.now.takes_do rescues.now tokens.now) }
     {
         if rescues.is_empty() {
             return Ok((None, tokens));
@@ -343,7 +343,7 @@ impl<F: Fn(Global, usize, Form, bool, &[Token]) -> Result<(Tree, &[Token]), Stop
     {
         let (body, rest) = self.form(Form::Body, self.takes_do, tokens)?;
         let (rescues, rest) = self.rescues(rest)?;
-        let (otherwise, rest) = self.otherwise_behind(&rescues, rest)?;
+        let (otherwise, rest) = self.otherwise_after(&rescues, rest)?;
         let (ensure, rest) = self.ensure(rest)?;
         let guarded = Guarded {
             body,

@@ -9,7 +9,7 @@ ghost use Rattle.rb_expr.specs.Reading.{Gives};
 use crate::form::Form;
 use crate::grammar::Grammar;
 use crate::lists::{
-    Order, behind_argument, end_of_argument, fresh_name, goes_on, is_keyword, note, order_of,
+    Order, after_argument, end_of_argument, fresh_name, goes_on, is_keyword, note, order_of,
     passes_block,
 };
 use crate::reading::{Read, Stop, after, expect, named, peek, sees, skip_separators};
@@ -90,20 +90,20 @@ impl<F: Fn(Global, usize, Form, bool, &[Token]) -> Result<(Tree, &[Token]), Stop
         let mut keywords = false;
         let mut rest = tokens;
         for _turn in 0..self.depth {
-            let (next, behind) = self.argument(keywords, true, rest)?;
+            let (next, left) = self.argument(keywords, true, rest)?;
             let order = order_of(&next);
             found.push(next)?;
-            let (closing, behind) = behind_argument(closer, order, behind)?;
+            let (closing, left) = after_argument(closer, order, left)?;
             if let Some(closing) = closing {
-                return Ok(((found, closing), behind));
+                return Ok(((found, closing), left));
             }
             keywords = is_keyword(order);
-            rest = behind;
+            rest = left;
         }
         Err(Stop::Refused(rest))
     }
 
-    /// What stands behind the `(` of arguments.
+    /// What stands after the `(` of arguments.
     #[tactic(auto, unfolding(crate::specs::Calls::in_brackets))]
     fn in_brackets<'a>(&self, tokens: &'a [Token]) -> Read<'a, (Items<Argument<Tree>>, Span)>
         requires { Nests self.now.depth (F.pre self.now.nested) (F.post self.now.nested) }
@@ -164,20 +164,20 @@ impl<F: Fn(Global, usize, Form, bool, &[Token]) -> Result<(Tree, &[Token]), Stop
         let mut keywords = false;
         let mut rest = tokens;
         for _turn in 0..self.depth {
-            let (next, behind) = self.argument(keywords, false, rest)?;
+            let (next, left) = self.argument(keywords, false, rest)?;
             let order = order_of(&next);
             let end = end_of_argument(&next);
             found.push(next)?;
-            if !goes_on(order, behind) {
-                return Ok(((found, end), behind));
+            if !goes_on(order, left) {
+                return Ok(((found, end), left));
             }
             keywords = is_keyword(order);
-            rest = after(behind);
+            rest = after(left);
         }
         Err(Stop::Refused(rest))
     }
 
-    /// The names of a block's parameters behind the first `|`, to the second.
+    /// The names of a block's parameters after the first `|`, to the second.
     fn bar_names<'a>(&self, tokens: &'a [Token]) -> Read<'a, Items<PlacedName>>
         requires { Nests self.now.depth (F.pre self.now.nested) (F.post self.now.nested) }
         ensures { Gives (λ x. (x.0, x.1.now)) result (calls.bar_names (parsed self.now.depth) self.now.depth self.now.takes_do tokens.now) }
@@ -186,15 +186,15 @@ impl<F: Fn(Global, usize, Form, bool, &[Token]) -> Result<(Tree, &[Token]), Stop
         let mut names = IndexSet::new(self.alloc);
         let mut rest = tokens;
         for _turn in 0..self.depth {
-            let (next, behind) = fresh_name(self.alloc, &names, rest)?;
-            if !sees(Shape::Comma, behind) {
+            let (next, left) = fresh_name(self.alloc, &names, rest)?;
+            if !sees(Shape::Comma, left) {
                 found.push(next)?;
-                let (_, behind) = expect(Shape::Pipe, behind)?;
-                return Ok((found, behind));
+                let (_, left) = expect(Shape::Pipe, left)?;
+                return Ok((found, left));
             }
             note(&mut names, &next.name)?;
             found.push(next)?;
-            rest = after(behind);
+            rest = after(left);
         }
         Err(Stop::Refused(rest))
     }

@@ -187,7 +187,7 @@ fn repeats(modifier: Modifier) -> bool
     }
 }
 
-/// Whether the modifier may stand behind the statement.
+/// Whether the modifier may stand after the statement.
 #[tactic(auto, unfolding(crate::specs::Statements::may_modify))]
 fn may_modify(modifier: Modifier, statement: &Tree) -> bool
     ensures { result ≡ spec.may_modify modifier statement.now }
@@ -195,10 +195,10 @@ fn may_modify(modifier: Modifier, statement: &Tree) -> bool
     !repeats(modifier) || !is_begin(statement)
 }
 
-/// The modifier that the next token is, if it may stand behind the statement.
-#[tactic(auto, unfolding(crate::specs::Statements::modifier_behind))]
-pub fn modifier_behind(statement: &Tree, next: Option<Shape>) -> Option<Modifier>
-    ensures { result ≡ spec.modifier_behind statement.now next }
+/// The modifier that the next token is, if it may stand after the statement.
+#[tactic(auto, unfolding(crate::specs::Statements::modifier_after))]
+pub fn modifier_after(statement: &Tree, next: Option<Shape>) -> Option<Modifier>
+    ensures { result ≡ spec.modifier_after statement.now next }
 {
     let modifier = modifier_of(next)?;
     if may_modify(modifier, statement) {

@@ -11,7 +11,7 @@ pub enum Form {
     Tern,
     /// An operation of operators between two operands that bind at least so tightly.
     Operation { least: u8 },
-    /// An operand with a `-` in front, or with a `**` behind.
+    /// An operand with a `-` in front, or with a `**` after.
     Negated,
     /// An operand with another operator in front.
     Prefixed,

@@ -3,7 +3,7 @@
 //! `expr` reads the longest body without declarations that begins at a place of a list of tokens, `tern` an expression. Both
 //! are the definitions `expr_of` and `tern_of`, and read no further than the first token at which the weight passes its limit,
 //! so that they recurse no deeper than that. `rules` has the rules that declarations are made of, and `reading` the steps that
-//! every rule is made of. A rule takes the tokens from where it begins on, and answers what it read and the tokens behind it,
+//! every rule is made of. A rule takes the tokens from where it begins on, and answers what it read and the tokens after it,
 //! or the tokens from the refused one on.
 #![tactic(auto)]
 
@@ -41,9 +41,9 @@ pub enum ParseEnd {
 }
 
 /// Reads the longest body without declarations that begins at the token `from`, counted from 0. Answers its tree and the place
-/// behind it, counted in tokens. A `rescue` directly behind the last statement is refused.
+/// after it, counted in tokens. A `rescue` directly after the last statement is refused.
 ///
-/// `weight` is the weight behind the tokens before `from`, at most 200, and `here` the part of it that the next separator takes
+/// `weight` is the weight after the tokens before `from`, at most 200, and `here` the part of it that the next separator takes
 /// away. `constants` says whether a constant may be assigned to in the body's own statements. Of two refusals the one at the
 /// lesser place is given, and `Bad` where both are at one.
 pub fn expr(

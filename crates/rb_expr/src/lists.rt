@@ -1,4 +1,4 @@
-//! What stands between and behind the elements of lists, and what their kinds say.
+//! What stands between and after the elements of lists, and what their kinds say.
 
 ghost use Rattle.std.specs.Prelude.{◌≡◌, OnOk};
 ghost use Rattle.rb_tree.specs.Trees.{span_of};
@@ -105,7 +105,7 @@ pub fn takes_comma(closer: Shape) -> bool
     !closer.is(Shape::CloseParen)
 }
 
-/// The closing bracket of a list, behind separators.
+/// The closing bracket of a list, after separators.
 #[tactic(auto, unfolding(crate::specs::Lists::closed))]
 fn closed<'a>(closer: Shape, tokens: &'a [Token]) -> Read<'a, Option<Span>>
     ensures { Gives (λ x. (x.0, x.1.now)) result (spec.closed closer tokens.now) }
@@ -114,10 +114,10 @@ fn closed<'a>(closer: Shape, tokens: &'a [Token]) -> Read<'a, Option<Span>>
     Ok((Some(closing), rest))
 }
 
-/// What stands behind a comma and separators: a closing bracket, if a comma may stand before it, or an element.
-#[tactic(auto, unfolding(crate::specs::Lists::behind_comma))]
-fn behind_comma<'a>(closer: Shape, tokens: &'a [Token]) -> Read<'a, Option<Span>>
-    ensures { Gives (λ x. (x.0, x.1.now)) result (spec.behind_comma closer tokens.now) }
+/// What stands after a comma and separators: a closing bracket, if a comma may stand before it, or an element.
+#[tactic(auto, unfolding(crate::specs::Lists::after_comma))]
+fn after_comma<'a>(closer: Shape, tokens: &'a [Token]) -> Read<'a, Option<Span>>
+    ensures { Gives (λ x. (x.0, x.1.now)) result (spec.after_comma closer tokens.now) }
 {
     if takes_comma(closer) && sees(closer, tokens) {
         closed(closer, tokens)
@@ -126,22 +126,22 @@ fn behind_comma<'a>(closer: Shape, tokens: &'a [Token]) -> Read<'a, Option<Span>
     }
 }
 
-/// What stands behind an element of a list in brackets: the closing bracket, or a comma and what is behind it.
-#[tactic(auto, unfolding(crate::specs::Lists::behind_element))]
-pub fn behind_element<'a>(closer: Shape, tokens: &'a [Token]) -> Read<'a, Option<Span>>
-    ensures { Gives (λ x. (x.0, x.1.now)) result (spec.behind_element closer tokens.now) }
+/// What stands after an element of a list in brackets: the closing bracket, or a comma and what is after it.
+#[tactic(auto, unfolding(crate::specs::Lists::after_element))]
+pub fn after_element<'a>(closer: Shape, tokens: &'a [Token]) -> Read<'a, Option<Span>>
+    ensures { Gives (λ x. (x.0, x.1.now)) result (spec.after_element closer tokens.now) }
 {
     if sees(Shape::Comma, tokens) {
-        behind_comma(closer, skip_separators(after(tokens)))
+        after_comma(closer, skip_separators(after(tokens)))
     } else {
         closed(closer, tokens)
     }
 }
 
-/// What stands behind the last element of a list in brackets.
-#[tactic(auto, unfolding(crate::specs::Lists::behind_last))]
-fn behind_last<'a>(closer: Shape, tokens: &'a [Token]) -> Read<'a, Option<Span>>
-    ensures { Gives (λ x. (x.0, x.1.now)) result (spec.behind_last closer tokens.now) }
+/// What stands after the last element of a list in brackets.
+#[tactic(auto, unfolding(crate::specs::Lists::after_last))]
+fn after_last<'a>(closer: Shape, tokens: &'a [Token]) -> Read<'a, Option<Span>>
+    ensures { Gives (λ x. (x.0, x.1.now)) result (spec.after_last closer tokens.now) }
 {
     if takes_comma(closer) && sees(Shape::Comma, tokens) {
         closed(closer, after(tokens))
@@ -150,19 +150,19 @@ fn behind_last<'a>(closer: Shape, tokens: &'a [Token]) -> Read<'a, Option<Span>>
     }
 }
 
-/// What stands behind an argument in brackets. One that is given as a block is the last.
-#[tactic(auto, unfolding(crate::specs::Lists::behind_argument))]
-pub fn behind_argument<'a>(
+/// What stands after an argument in brackets. One that is given as a block is the last.
+#[tactic(auto, unfolding(crate::specs::Lists::after_argument))]
+pub fn after_argument<'a>(
     closer: Shape,
     order: Order,
     tokens: &'a [Token],
 ) -> Read<'a, Option<Span>>
-    ensures { Gives (λ x. (x.0, x.1.now)) result (spec.behind_argument closer order tokens.now) }
+    ensures { Gives (λ x. (x.0, x.1.now)) result (spec.after_argument closer order tokens.now) }
 {
     if is_block(order) {
-        behind_last(closer, tokens)
+        after_last(closer, tokens)
     } else {
-        behind_element(closer, tokens)
+        after_element(closer, tokens)
     }
 }
 

@@ -11,7 +11,7 @@ use rb_tree::token::{Shape, Token};
 use srb_terms::{NoMemory, Span};
 use std::alloc::Global;
 
-/// A number behind its sign, if it has one. Both begin at `start`.
+/// A number after its sign, if it has one. Both begin at `start`.
 #[tactic(auto, unfolding(crate::specs::Operands::number))]
 pub fn number<'a>(
     alloc: Global,
@@ -74,7 +74,7 @@ fn unraised<'a>(value: Tree, tokens: &'a [Token]) -> Read<'a, Tree>
     }
 }
 
-/// `-` and its number. No `**` stands behind it: there the `-` is an operator in front of the power.
+/// `-` and its number. No `**` stands after it: there the `-` is an operator in front of the power.
 #[tactic(auto, unfolding(crate::specs::Operands::negative))]
 pub fn negative<'a>(alloc: Global, tokens: &'a [Token]) -> Read<'a, Tree>
     ensures { Gives (λ x. (x.0, x.1.now)) result (spec.negative tokens.now) }

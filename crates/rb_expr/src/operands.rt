@@ -1,4 +1,4 @@
-//! Operands: names, brackets, calls, and the suffixes behind them.
+//! Operands: names, brackets, calls, and the suffixes after them.
 
 ghost use Rattle.std.specs.Prelude.{◌≡◌, IfOk};
 ghost use Rattle.rb_expr.specs.Grammar.{Nests, parsed};
@@ -7,7 +7,7 @@ ghost use Rattle.rb_expr.specs.Reading.{Gives};
 
 use crate::form::Form;
 use crate::grammar::Grammar;
-use crate::lists::{behind_element, end_with, span_of_suffix};
+use crate::lists::{after_element, end_with, span_of_suffix};
 use crate::literals::{
     constant, instance_variable, negative, number, signed, symbol, top_constant, word,
 };
@@ -22,7 +22,7 @@ use rb_tree::token::{Shape, Token};
 use srb_terms::{Boxed, Items, NoMemory, Span};
 use std::alloc::Global;
 
-/// A name with what stands behind it: where nothing does, the name alone.
+/// A name with what stands after it: where nothing does, the name alone.
 fn call_of(
     alloc: Global,
     name: PlacedName,
@@ -100,7 +100,7 @@ impl<F: Fn(Global, usize, Form, bool, &[Token]) -> Result<(Tree, &[Token]), Stop
         Ok((Piece::Code { body, span }, rest))
     }
 
-    /// A string behind its first piece, which has this place.
+    /// A string after its first piece, which has this place.
     fn pieces<'a>(&self, first: Piece<Tree>, place: Span, tokens: &'a [Token]) -> Read<'a, Tree>
         requires { Nests self.now.depth (F.pre self.now.nested) (F.post self.now.nested) }
         ensures { Gives (λ x. (x.0, x.1.now)) result (operands.pieces (parsed self.now.depth) self.now.depth self.now.takes_do first place tokens.now) }
@@ -121,12 +121,12 @@ impl<F: Fn(Global, usize, Form, bool, &[Token]) -> Result<(Tree, &[Token]), Stop
                 };
                 return Ok((Tree::new(self.alloc, node)?, rest));
             }
-            let (code, behind) = self.interpolation(rest)?;
-            let ((words, span), behind) = worded(self.alloc, Shape::Text, behind)?;
+            let (code, left) = self.interpolation(rest)?;
+            let ((words, span), left) = worded(self.alloc, Shape::Text, left)?;
             found.push(code)?;
             found.push(Piece::Words { words, span })?;
             end = span.end;
-            rest = behind;
+            rest = left;
         }
         Err(Stop::Refused(rest))
     }
@@ -191,9 +191,9 @@ impl<F: Fn(Global, usize, Form, bool, &[Token]) -> Result<(Tree, &[Token]), Stop
         let mut found = Items::new(self.alloc);
         let mut rest = tokens;
         for _turn in 0..self.depth {
-            let (element, behind) = self.form(Form::Tern, true, rest)?;
+            let (element, left) = self.form(Form::Tern, true, rest)?;
             found.push(element)?;
-            let (closing, behind) = behind_element(Shape::CloseBracket, behind)?;
+            let (closing, left) = after_element(Shape::CloseBracket, left)?;
             if let Some(closing) = closing {
                 let span = Span {
                     start,
@@ -203,14 +203,14 @@ impl<F: Fn(Global, usize, Form, bool, &[Token]) -> Result<(Tree, &[Token]), Stop
                     elements: found,
                     span,
                 };
-                return Ok((Tree::new(self.alloc, node)?, behind));
+                return Ok((Tree::new(self.alloc, node)?, left));
             }
-            rest = behind;
+            rest = left;
         }
         Err(Stop::Refused(rest))
     }
 
-    /// What stands behind the `[` of an array and separators.
+    /// What stands after the `[` of an array and separators.
     #[tactic(auto, unfolding(crate::specs::Operands::array_from))]
     fn array_from<'a>(&self, start: u32, tokens: &'a [Token]) -> Read<'a, Tree>
         requires { Nests self.now.depth (F.pre self.now.nested) (F.post self.now.nested) }
@@ -283,23 +283,23 @@ impl<F: Fn(Global, usize, Form, bool, &[Token]) -> Result<(Tree, &[Token]), Stop
         let mut found = Items::new(self.alloc);
         let mut rest = tokens;
         for _turn in 0..self.depth {
-            let (next, behind) = self.pair(rest)?;
+            let (next, left) = self.pair(rest)?;
             found.push(next)?;
-            let (closing, behind) = behind_element(Shape::CloseBrace, behind)?;
+            let (closing, left) = after_element(Shape::CloseBrace, left)?;
             if let Some(closing) = closing {
                 let span = Span {
                     start,
                     end: closing.end,
                 };
                 let node = Node::Hash { pairs: found, span };
-                return Ok((Tree::new(self.alloc, node)?, behind));
+                return Ok((Tree::new(self.alloc, node)?, left));
             }
-            rest = behind;
+            rest = left;
         }
         Err(Stop::Refused(rest))
     }
 
-    /// What stands behind the `{` of a hash and separators.
+    /// What stands after the `{` of a hash and separators.
     #[tactic(auto, unfolding(crate::specs::Operands::hash_from))]
     fn hash_from<'a>(&self, start: u32, tokens: &'a [Token]) -> Read<'a, Tree>
         requires { Nests self.now.depth (F.pre self.now.nested) (F.post self.now.nested) }
@@ -382,7 +382,7 @@ impl<F: Fn(Global, usize, Form, bool, &[Token]) -> Result<(Tree, &[Token]), Stop
         }
     }
 
-    /// A call behind its receiver, from the dot on.
+    /// A call after its receiver, from the dot on.
     #[tactic(auto, unfolding(crate::specs::Operands::call_suffix))]
     fn call_suffix<'a>(&self, joint: Dot, tokens: &'a [Token]) -> Read<'a, Suffix<Tree>>
         requires { Nests self.now.depth (F.pre self.now.nested) (F.post self.now.nested) }
@@ -478,7 +478,7 @@ impl<F: Fn(Global, usize, Form, bool, &[Token]) -> Result<(Tree, &[Token]), Stop
         }
     }
 
-    /// The suffixes behind an operand. `all` are the tokens from the operand on.
+    /// The suffixes after an operand. `all` are the tokens from the operand on.
     fn suffixes<'a>(&self, all: &[Token], receiver: Tree, tokens: &'a [Token]) -> Read<'a, Tree>
         requires { Nests self.now.depth (F.pre self.now.nested) (F.post self.now.nested) }
         ensures { Gives (λ x. (x.0, x.1.now)) result (operands.suffixes (parsed self.now.depth) self.now.depth self.now.takes_do all.now receiver tokens.now) }
@@ -487,13 +487,13 @@ impl<F: Fn(Global, usize, Form, bool, &[Token]) -> Result<(Tree, &[Token]), Stop
         let mut end = 0;
         let mut rest = tokens;
         for _turn in 0..self.depth {
-            let (next, behind) = self.suffix(all, rest)?;
+            let (next, left) = self.suffix(all, rest)?;
             let Some(next) = next else {
-                return Ok((post_of(self.alloc, receiver, found, end)?, behind));
+                return Ok((post_of(self.alloc, receiver, found, end)?, left));
             };
             end = span_of_suffix(&next).end;
             found.push(next)?;
-            rest = behind;
+            rest = left;
         }
         Err(Stop::Refused(rest))
     }

@@ -55,7 +55,7 @@ impl<F: Fn(Global, usize, Form, bool, &[Token]) -> Result<(Tree, &[Token]), Stop
         Ok((Tree::new(self.alloc, node)?, rest))
     }
 
-    /// An operator behind its left side, and its right side, which is read as this form.
+    /// An operator after its left side, and its right side, which is read as this form.
     #[tactic(auto, unfolding(crate::specs::Operators::binary_operation))]
     fn binary_operation<'a>(
         &self,
@@ -92,7 +92,7 @@ impl<F: Fn(Global, usize, Form, bool, &[Token]) -> Result<(Tree, &[Token]), Stop
         }
     }
 
-    /// Perhaps `**` and its right side behind this operand.
+    /// Perhaps `**` and its right side after this operand.
     #[tactic(auto, unfolding(crate::specs::Operators::powered))]
     fn powered<'a>(&self, left: Tree, tokens: &'a [Token]) -> Read<'a, Tree>
         requires { Nests self.now.depth (F.pre self.now.nested) (F.post self.now.nested) }
@@ -127,7 +127,7 @@ impl<F: Fn(Global, usize, Form, bool, &[Token]) -> Result<(Tree, &[Token]), Stop
         }
     }
 
-    /// Operations behind their first operand, whose operators bind at least as tightly as `least`.
+    /// Operations after their first operand, whose operators bind at least as tightly as `least`.
     fn climb<'a>(&self, least: u8, left: Tree, tokens: &'a [Token]) -> Read<'a, Tree>
         requires { Nests self.now.depth (F.pre self.now.nested) (F.post self.now.nested) }
         ensures { Gives (λ x. (x.0, x.1.now)) result (operators.climb (parsed self.now.depth) self.now.depth self.now.takes_do least left tokens.now) }
@@ -142,10 +142,10 @@ impl<F: Fn(Global, usize, Form, bool, &[Token]) -> Result<(Tree, &[Token]), Stop
             let form = Form::Operation {
                 least: level_of(operator) + 1,
             };
-            let (longer, behind) = self.binary_operation(operator, form, longest, rest)?;
+            let (longer, left) = self.binary_operation(operator, form, longest, rest)?;
             longest = longer;
             most = ceiling(operator);
-            rest = behind;
+            rest = left;
         }
         Err(Stop::Refused(rest))
     }
@@ -160,7 +160,7 @@ impl<F: Fn(Global, usize, Form, bool, &[Token]) -> Result<(Tree, &[Token]), Stop
         self.climb(least, left, rest)
     }
 
-    /// `?`, `:` and their sides, behind their condition.
+    /// `?`, `:` and their sides, after their condition.
     #[tactic(auto, unfolding(crate::specs::Operators::alternatives))]
     fn alternatives<'a>(&self, condition: Tree, tokens: &'a [Token]) -> Read<'a, Tree>
         requires { Nests self.now.depth (F.pre self.now.nested) (F.post self.now.nested) }
@@ -203,10 +203,10 @@ impl<F: Fn(Global, usize, Form, bool, &[Token]) -> Result<(Tree, &[Token]), Stop
     }
 
     /// The rest of an expression that begins by this operand.
-    #[tactic(auto, unfolding(crate::specs::Operators::tern_behind))]
-    pub fn tern_behind<'a>(&self, first: Tree, tokens: &'a [Token]) -> Read<'a, Tree>
+    #[tactic(auto, unfolding(crate::specs::Operators::tern_after))]
+    pub fn tern_after<'a>(&self, first: Tree, tokens: &'a [Token]) -> Read<'a, Tree>
         requires { Nests self.now.depth (F.pre self.now.nested) (F.post self.now.nested) }
-        ensures { Gives (λ x. (x.0, x.1.now)) result (operators.tern_behind (parsed self.now.depth) self.now.depth self.now.takes_do first tokens.now) }
+        ensures { Gives (λ x. (x.0, x.1.now)) result (operators.tern_after (parsed self.now.depth) self.now.depth self.now.takes_do first tokens.now) }
     {
         let (left, rest) = self.powered(first, tokens)?;
         let (condition, rest) = self.climb(1, left, rest)?;

@@ -18,7 +18,7 @@ pub enum Stop<'a> {
     Refused(&'a [Token]),
 }
 
-/// What a rule has read, and the tokens behind it.
+/// What a rule has read, and the tokens after it.
 pub type Read<'a, A> = Result<(A, &'a [Token]), Stop<'a>>;
 
 impl From<NoMemory> for Stop<'_> {
@@ -69,7 +69,7 @@ pub fn touches(before: Span, tokens: &[Token]) -> bool
     }
 }
 
-/// The tokens behind the next one.
+/// The tokens after the next one.
 pub fn after(tokens: &[Token]) -> &[Token]
     ensures { result.now ≡ spec.after tokens.now }
 {
@@ -79,7 +79,7 @@ pub fn after(tokens: &[Token]) -> &[Token]
     }
 }
 
-/// The tokens behind the separators that come next.
+/// The tokens after the separators that come next.
 pub fn skip_separators(tokens: &[Token]) -> &[Token]
     ensures { result.now ≡ spec.skip_separators tokens.now }
 {

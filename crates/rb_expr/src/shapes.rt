@@ -99,7 +99,7 @@ pub fn jump_of(next: Option<Shape>) -> Option<Jump>
     }
 }
 
-/// The modifier that the next token is, behind a statement.
+/// The modifier that the next token is, after a statement.
 pub fn modifier_of(next: Option<Shape>) -> Option<Modifier>
     ensures { result ≡ spec.modifier_of next }
 {
@@ -160,7 +160,7 @@ pub fn level_of(operator: Binary) -> u8
     }
 }
 
-/// The tightest level at which an operator may stand behind an operation by this one: of `==` and its like there is one in
+/// The tightest level at which an operator may stand after an operation by this one: of `==` and its like there is one in
 /// a row alone.
 pub fn ceiling(operator: Binary) -> u8
     ensures { result ≡ spec.ceiling operator }
@@ -280,7 +280,7 @@ pub fn sign_shape(sign: Sign) -> Shape
     }
 }
 
-/// Whether behind a token of this shape the `[` of an index need not touch it.
+/// Whether after a token of this shape the `[` of an index need not touch it.
 pub fn closes(shape: Shape) -> bool
     ensures { result ≡ spec.closes shape }
 {

@@ -6,7 +6,7 @@ ghost use Rattle.rb_expr.specs.Reading.{Gives};
 ghost use Rattle.rb_expr.specs.Statements as statements;
 ghost use Rattle.rb_tree.specs.Nodes as tree;
 
-use crate::ending::{Follower, ending_of, follower_of, modifier_behind};
+use crate::ending::{Follower, ending_of, follower_of, modifier_after};
 use crate::form::Form;
 use crate::grammar::Grammar;
 use crate::lists::end_with;
@@ -40,7 +40,7 @@ fn body_start(tokens: &[Token]) -> u32
 }
 
 impl<F: Fn(Global, usize, Form, bool, &[Token]) -> Result<(Tree, &[Token]), Stop<'_>>> Grammar<F> {
-    /// `=` and a value behind its target.
+    /// `=` and a value after its target.
     #[tactic(auto, unfolding(crate::specs::Statements::assigned))]
     fn assigned<'a>(&self, target: Tree, tokens: &'a [Token]) -> Read<'a, Tree>
         requires { Nests self.now.depth (F.pre self.now.nested) (F.post self.now.nested) }
@@ -57,7 +57,7 @@ impl<F: Fn(Global, usize, Form, bool, &[Token]) -> Result<(Tree, &[Token]), Stop
         Ok((Tree::new(self.alloc, node)?, rest))
     }
 
-    /// An operator with `=` and a value behind its target.
+    /// An operator with `=` and a value after its target.
     #[tactic(auto, unfolding(crate::specs::Statements::operator_assigned))]
     fn operator_assigned<'a>(
         &self,
@@ -81,7 +81,7 @@ impl<F: Fn(Global, usize, Form, bool, &[Token]) -> Result<(Tree, &[Token]), Stop
         Ok((Tree::new(self.alloc, node)?, rest))
     }
 
-    /// Arguments without brackets and perhaps a block, behind what is called.
+    /// Arguments without brackets and perhaps a block, after what is called.
     #[tactic(auto, unfolding(crate::specs::Statements::command))]
     fn command<'a>(&self, callee: Tree, tokens: &'a [Token]) -> Read<'a, Tree>
         requires { Nests self.now.depth (F.pre self.now.nested) (F.post self.now.nested) }
@@ -113,7 +113,7 @@ impl<F: Fn(Global, usize, Form, bool, &[Token]) -> Result<(Tree, &[Token]), Stop
             Follower::Value => self.assigned(first, tokens),
             Follower::Operator { operator } => self.operator_assigned(operator, first, tokens),
             Follower::Arguments => self.command(first, tokens),
-            Follower::Operators => self.tern_behind(first, tokens),
+            Follower::Operators => self.tern_after(first, tokens),
         }
     }
 
@@ -182,7 +182,7 @@ impl<F: Fn(Global, usize, Form, bool, &[Token]) -> Result<(Tree, &[Token]), Stop
         }
     }
 
-    /// A modifier and its condition behind a statement.
+    /// A modifier and its condition after a statement.
     #[tactic(auto, unfolding(crate::specs::Statements::modified))]
     fn modified<'a>(&self, modifier: Modifier, inner: Tree, tokens: &'a [Token]) -> Read<'a, Tree>
         requires { Nests self.now.depth (F.pre self.now.nested) (F.post self.now.nested) }
@@ -200,7 +200,7 @@ impl<F: Fn(Global, usize, Form, bool, &[Token]) -> Result<(Tree, &[Token]), Stop
         Ok((Tree::new(self.alloc, node)?, rest))
     }
 
-    /// The modifiers behind a statement.
+    /// The modifiers after a statement.
     fn modifiers<'a>(&self, inner: Tree, tokens: &'a [Token]) -> Read<'a, Tree>
         requires { Nests self.now.depth (F.pre self.now.nested) (F.post self.now.nested) }
         ensures { Gives (λ x. (x.0, x.1.now)) result (statements.modifiers (parsed self.now.depth) self.now.depth self.now.takes_do inner tokens.now) }
@@ -208,12 +208,12 @@ impl<F: Fn(Global, usize, Form, bool, &[Token]) -> Result<(Tree, &[Token]), Stop
         let mut longest = inner;
         let mut rest = tokens;
         for _turn in 0..self.depth {
-            let Some(modifier) = modifier_behind(&longest, peek(rest)) else {
+            let Some(modifier) = modifier_after(&longest, peek(rest)) else {
                 return Ok((longest, rest));
             };
-            let (longer, behind) = self.modified(modifier, longest, rest)?;
+            let (longer, left) = self.modified(modifier, longest, rest)?;
             longest = longer;
-            rest = behind;
+            rest = left;
         }
         Err(Stop::Refused(rest))
     }
@@ -240,13 +240,13 @@ impl<F: Fn(Global, usize, Form, bool, &[Token]) -> Result<(Tree, &[Token]), Stop
             if !begins_statement(rest) {
                 return Ok((body_of(self.alloc, found, Span { start, end })?, rest));
             }
-            let (next, behind) = self.statement(constants, rest)?;
+            let (next, left) = self.statement(constants, rest)?;
             end = next.span().end;
             found.push(next)?;
-            if !sees(Shape::Separator, behind) {
-                return ended(self.alloc, found, Span { start, end }, behind);
+            if !sees(Shape::Separator, left) {
+                return ended(self.alloc, found, Span { start, end }, left);
             }
-            rest = skip_separators(behind);
+            rest = skip_separators(left);
         }
         Err(Stop::Refused(rest))
     }
@@ -268,7 +268,7 @@ fn body_of(alloc: Global, statements: Items<Tree>, span: Span) -> Result<Tree, N
     Tree::new(alloc, Node::Body { statements, span })
 }
 
-/// The body of these statements, which ends behind the last. A `rescue` doesn't stand there without a separator.
+/// The body of these statements, which ends after the last. A `rescue` doesn't stand there without a separator.
 #[tactic(auto, unfolding(crate::specs::Statements::ended))]
 fn ended<'a>(alloc: Global, found: Items<Tree>, span: Span, tokens: &'a [Token]) -> Read<'a, Tree>
     ensures { Gives (λ x. (x.0, x.1.now)) result (statements.ended found span tokens.now) }

@@ -16,7 +16,7 @@ use Rattle.rb_tree.specs.declared.token.Shape.TheVariants as shape
 use Rattle.rb_expr.specs.declared.form.Form.{Form}
 use Rattle.rb_expr.specs.declared.form.Form.TheVariants as form
 use Rattle.rb_expr.specs.Reading.{Parser, sees, after, skip_separators}
-use Rattle.rb_expr.specs.Branches.{after_then, then_word, do_word, otherwise, elsif_arm, elsif_arms_from, elsif_arms, arms_of, branch, repeated, subject, patterns_from, patterns, when_arm, when_arms_from, when_arms, choice, rescue_variable, raised, rescue_clause, rescues_from, rescues, otherwise_behind, ensure, guarded, guards}
+use Rattle.rb_expr.specs.Branches.{after_then, then_word, do_word, otherwise, elsif_arm, elsif_arms_from, elsif_arms, arms_of, branch, repeated, subject, patterns_from, patterns, when_arm, when_arms_from, when_arms, choice, rescue_variable, raised, rescue_clause, rescues_from, rescues, otherwise_after, ensure, guarded, guards}
 use Rattle.rb_rules.specs.Tokens.{Is, IsAny}
 use Rattle.rb_rules.specs.Forms.{Inside}
 use Rattle.rb_rules.specs.Grammar.{Then, IsRow, BRANCH_WORDS, LOOP_WORDS, Parted, RescueVariable, DerivesBody, DerivesSimple, DerivesTerm, DerivesArms, DerivesElse, DerivesSubject, DerivesWhens, DerivesPatterns, DerivesGuarded, DerivesRescues, DerivesRaised, DerivesEnsure, DerivesPrimary}
@@ -204,8 +204,8 @@ module _ (nested : Form → Bool → Parser Tree) (ih : Sound nested) (turns : �
   Otherwise [] xs o ys = (o ≡ None) × (xs ≡ ys)
   Otherwise (c ∷ more) xs o ys = Else xs o ys
 
-  otherwise-holds : (cs : List (Rescue Tree)) (xs : List Token) → Holds (otherwise_behind nested turns free cs xs) (Otherwise cs xs)
-  unfolding otherwise_behind
+  otherwise-holds : (cs : List (Rescue Tree)) (xs : List Token) → Holds (otherwise_after nested turns free cs xs) (Otherwise cs xs)
+  unfolding otherwise_after
   otherwise-holds [] xs = answered _ _ _ (refl, refl)
   otherwise-holds (c ∷ more) xs = else-holds xs
 

@@ -25,7 +25,7 @@ use Rattle.rb_rules.specs.Grammar.DerivesPrefixed.{Posted}
 use Rattle.rb_rules.specs.Grammar.DerivesOperand.{Bare, Suffixed}
 use Rattle.rb_rules.specs.Grammar.DerivesSuffix.{Calls}
 use Rattle.rb_rules.specs.Grammar.DerivesBrackets.{Brackets}
-use Rattle.rb_rules.specs.Grammar.DerivesBlockBehind.{NoBlock}
+use Rattle.rb_rules.specs.Grammar.DerivesBlockAfter.{NoBlock}
 use Rattle.rb_rules.specs.Grammar.DerivesPrimary.{WholeNumber, NameAlone}
 use Rattle.rb_grammar.specs.Examples.{digit, CALL, CallDerives}
 

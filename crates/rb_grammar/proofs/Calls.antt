@@ -19,18 +19,18 @@ use Rattle.rb_expr.specs.Calls.{keyword, passed_block, positional, argument_by, 
 use Rattle.rb_rules.specs.Tokens.{Is}
 use Rattle.rb_rules.specs.Spans.{across, last_of}
 use Rattle.rb_rules.specs.Forms.{Inside, AreOrdered, HasNoBlock, LeavesBlock, AreDistinct, names_of}
-use Rattle.rb_rules.specs.Grammar.{Gap, DerivesEnd, BarNames, Bars, DerivesBody, DerivesArgument, DerivesArguments, DerivesBrackets, DerivesBlock, DerivesBlockBehind, DerivesDo}
+use Rattle.rb_rules.specs.Grammar.{Gap, DerivesEnd, BarNames, Bars, DerivesBody, DerivesArgument, DerivesArguments, DerivesBrackets, DerivesBlock, DerivesBlockAfter, DerivesDo}
 use Rattle.rb_rules.specs.Grammar.GapIn.{Tight, Loose}
 use Rattle.rb_rules.specs.Grammar.Bars.{NoBars, SomeBars}
 use Rattle.rb_rules.specs.Grammar.DerivesArgument.{ByPlace, ByName, AsBlock}
 use Rattle.rb_rules.specs.Grammar.DerivesArguments.{LastArgument, MoreArguments}
 use Rattle.rb_rules.specs.Grammar.DerivesBrackets.{NoBrackets, EmptyBrackets, Brackets}
 use Rattle.rb_rules.specs.Grammar.DerivesBlock.{Braces, DoEnd}
-use Rattle.rb_rules.specs.Grammar.DerivesBlockBehind.{NoBlock, SomeBlock}
+use Rattle.rb_rules.specs.Grammar.DerivesBlockAfter.{NoBlock, SomeBlock}
 use Rattle.rb_rules.specs.Grammar.DerivesDo.{NoDo, SomeDo}
 use Rattle.rb_grammar.proofs.Steps.{Holds, answered, refused, step, weaker, choose, same, taking, naming, follow, testing, seen, Within, within-self, within-token, within-more, gap, label}
 use Rattle.rb_grammar.proofs.Sound.{Sound}
-use Rattle.rb_grammar.proofs.Lists.{and-left, and-right, Ends, behind-argument-holds, Allowed, Ordered, last-ordered, more-ordered, no-block, Fresh, apart-all, noted-new, name-holds}
+use Rattle.rb_grammar.proofs.Lists.{and-left, and-right, Ends, after-argument-holds, Allowed, Ordered, last-ordered, more-ordered, no-block, Fresh, apart-all, noted-new, name-holds}
 
 module _ (nested : Form → Bool → Parser Tree) (ih : Sound nested) (turns : ℕ) (free : Bool) where
   -- ---- one argument
@@ -65,7 +65,7 @@ module _ (nested : Form → Bool → Parser Tree) (ih : Sound nested) (turns : �
 
   -- ---- arguments in brackets
 
-  -- behind those found
+  -- after those found
   abbrev pub Listed : Shape → Bool → List (Argument Tree) → List Token → List (Argument Tree) × Span → List Token → Type 0
   Listed closer keywords found xs r zs = (more : List (Argument Tree)) × (qs : List Token) × (c : Token) × (r.0 ≡ found ++ more) × (r.1 ≡ c.span)
       × DerivesArguments true true more xs qs × Ordered keywords more × Ends (takes_comma closer) qs (c ∷ zs) × Is closer c × Within xs (c ∷ zs)
@@ -73,7 +73,7 @@ module _ (nested : Form → Bool → Parser Tree) (ih : Sound nested) (turns : �
   listed-holds : (closer : Shape) (n : ℕ) (keywords : Bool) (found : List (Argument Tree)) (xs : List Token) → Holds (listed_from nested turns free closer n keywords found xs) (Listed closer keywords found xs)
   unfolding listed_from
   listed-holds closer zero keywords found xs = refused _ _
-  listed-holds closer (suc n) keywords found xs = step (argument-holds keywords true xs) (λ a ps h. step (behind-argument-holds closer (order_of a) ps) (elim [
+  listed-holds closer (suc n) keywords found xs = step (argument-holds keywords true xs) (λ a ps h. step (after-argument-holds closer (order_of a) ps) (elim [
     | Some place ↦ λ zs g. answered (Listed closer keywords found xs) (found ++ a ∷ [], place) zs
         (a ∷ [], ps, g.0, refl, g.2, LastArgument _ _ _ _ _ h.0, last-ordered a keywords h.2, g.3, g.1, within-more h.1 g.4)
     | None ↦ λ qs g. weaker (listed-holds closer n (is_keyword (order_of a)) (found ++ a ∷ []) qs) (λ r zs m.
@@ -107,7 +107,7 @@ module _ (nested : Form → Bool → Parser Tree) (ih : Sound nested) (turns : �
       (λ is. taking shape.CloseParen InBrackets _ (t ∷ ts) (λ c zs closes. answered (InBrackets (c ∷ zs)) ([], c.span) zs (c, refl, tt, within-self _, λ before o ws is g. EmptyBrackets _ _ _ _ _ is g closes)))
       (λ other. many-holds (t ∷ ts))
 
-  -- what stands in brackets behind a token, if brackets stand
+  -- what stands in brackets after a token, if brackets stand
   abbrev pub Orderly : Option (List (Argument Tree)) → Type 0
   Orderly None = Unit {0}
   Orderly (Some given) = AreOrdered given
@@ -227,46 +227,46 @@ module _ (nested : Form → Bool → Parser Tree) (ih : Sound nested) (turns : �
   do-block-holds : (xs : List Token) → Holds (block nested turns free shape.Do shape.End xs) (ABlock true xs)
   do-block-holds xs = block-holds true shape.Do shape.End DoEnd xs
 
-  -- a block behind this token, if one stands
+  -- a block after this token, if one stands
   abbrev pub Stands : Option (Block Tree) → Token → Token → List Token → List Token → Type 0
   Stands None middle last xs ys = (middle ≡ last) × (xs ≡ ys)
   Stands (Some b) middle last xs ys = DerivesBlock free b last xs ys
 
-  abbrev pub Behind : Token → List Token → Option (Block Tree) → List Token → Type 0
-  Behind middle xs b ys = (last : Token) × DerivesBlockBehind free b middle last xs ys × ((e : ℕ) → e ≡ middle.span.end → end_with b e ≡ last.span.end) × Within (middle ∷ xs) (last ∷ ys) × Stands b middle last xs ys
+  abbrev pub After : Token → List Token → Option (Block Tree) → List Token → Type 0
+  After middle xs b ys = (last : Token) × DerivesBlockAfter free b middle last xs ys × ((e : ℕ) → e ≡ middle.span.end → end_with b e ≡ last.span.end) × Within (middle ∷ xs) (last ∷ ys) × Stands b middle last xs ys
 
-  no-behind : (middle : Token) (xs : List Token) → Behind middle xs None xs
-  no-behind middle xs = (middle, NoBlock _ _ _, (λ e h. h), within-self _, (refl, refl))
+  no-after : (middle : Token) (xs : List Token) → After middle xs None xs
+  no-after middle xs = (middle, NoBlock _ _ _, (λ e h. h), within-self _, (refl, refl))
 
-  some-behind : (middle : Token) (xs : List Token) (b : Block Tree) (ys : List Token) → ABlock free xs b ys → Behind middle xs (Some b) ys
-  some-behind middle xs b ys h = (h.0, SomeBlock _ _ _ _ _ _ h.1, (λ e is. h.2), within-token middle h.3, h.1)
+  some-after : (middle : Token) (xs : List Token) (b : Block Tree) (ys : List Token) → ABlock free xs b ys → After middle xs (Some b) ys
+  some-after middle xs b ys h = (h.0, SomeBlock _ _ _ _ _ _ h.1, (λ e is. h.2), within-token middle h.3, h.1)
 
-  do-behind-holds : (middle : Token) (xs : List Token) → Holds (optional_do nested turns free xs) (Behind middle xs)
+  do-after-holds : (middle : Token) (xs : List Token) → Holds (optional_do nested turns free xs) (After middle xs)
   unfolding optional_do
-  do-behind-holds middle xs = choose
-      (λ e. step (do-block-holds xs) (λ b ys h. answered (Behind middle xs) (Some b) ys (some-behind middle xs b ys (subst (λ f. ABlock f xs b ys) (sym (and-left _ _ e)) h))))
-      (λ e. answered (Behind middle xs) None xs (no-behind middle xs))
+  do-after-holds middle xs = choose
+      (λ e. step (do-block-holds xs) (λ b ys h. answered (After middle xs) (Some b) ys (some-after middle xs b ys (subst (λ f. ABlock f xs b ys) (sym (and-left _ _ e)) h))))
+      (λ e. answered (After middle xs) None xs (no-after middle xs))
 
-  any-holds : (middle : Token) (xs : List Token) → Holds (any_block nested turns free xs) (Behind middle xs)
+  any-holds : (middle : Token) (xs : List Token) → Holds (any_block nested turns free xs) (After middle xs)
   unfolding any_block
-  any-holds middle [] = do-behind-holds middle []
+  any-holds middle [] = do-after-holds middle []
   any-holds middle (t ∷ ts) = testing
-      (λ is. step (braces-holds (t ∷ ts)) (λ b ys h. answered (Behind middle (t ∷ ts)) (Some b) ys (some-behind middle (t ∷ ts) b ys h)))
-      (λ other. do-behind-holds middle (t ∷ ts))
+      (λ is. step (braces-holds (t ∷ ts)) (λ b ys h. answered (After middle (t ∷ ts)) (Some b) ys (some-after middle (t ∷ ts) b ys h)))
+      (λ other. do-after-holds middle (t ∷ ts))
 
   abbrev pub Blocked : Option (List (Argument Tree)) → Token → List Token → Option (Block Tree) → List Token → Type 0
-  Blocked given middle xs b ys = Behind middle xs b ys × (b ≡ None ⊎ LeavesBlock given)
+  Blocked given middle xs b ys = After middle xs b ys × (b ≡ None ⊎ LeavesBlock given)
 
   some-block-holds : (given : List (Argument Tree)) (middle : Token) (xs : List Token) (passes : Bool) → passes_block given ≡ passes → AreOrdered given → Holds ((if passes then (λ tokens. Ok (None, tokens)) else any_block nested turns free) xs) (Blocked (Some given) middle xs)
-  some-block-holds given middle xs true e o = answered (Blocked (Some given) middle xs) None xs (no-behind middle xs, inl refl)
+  some-block-holds given middle xs true e o = answered (Blocked (Some given) middle xs) None xs (no-after middle xs, inl refl)
   some-block-holds given middle xs false e o = weaker (any-holds middle xs) (λ b ys h. (h, inr (no-block given o e)))
 
-  pub block-behind-holds : (given : Option (List (Argument Tree))) (middle : Token) (xs : List Token) → Orderly given → Holds (optional_block nested turns free given xs) (Blocked given middle xs)
+  pub block-after-holds : (given : Option (List (Argument Tree))) (middle : Token) (xs : List Token) → Orderly given → Holds (optional_block nested turns free given xs) (Blocked given middle xs)
   unfolding optional_block
-  block-behind-holds None middle xs o = weaker (any-holds middle xs) (λ b ys h. (h, inr tt))
-  block-behind-holds (Some given) middle xs o = some-block-holds given middle xs (passes_block given) refl o
+  block-after-holds None middle xs o = weaker (any-holds middle xs) (λ b ys h. (h, inr tt))
+  block-after-holds (Some given) middle xs o = some-block-holds given middle xs (passes_block given) refl o
 
-  -- the block of a command: a `do` behind its last argument, which ends here
+  -- the block of a command: a `do` after its last argument, which ends here
   abbrev pub Commanded : List (Argument Tree) → List Token → Option (Block Tree) → List Token → Type 0
   Commanded given xs b ys = DerivesDo free b xs ys × (b ≡ None ⊎ HasNoBlock given) × Within xs ys
 

@@ -1,4 +1,4 @@
--- What stands between and behind the elements of lists, and the orders of arguments and names.
+-- What stands between and after the elements of lists, and the orders of arguments and names.
 use Rattle.std.proofs.Common.{◌≡◌, ◌≢◌, ℕ, suc, ◌-◌, Bool, true, false, ◌&&◌, ◌||◌, if◌then◌else◌, List, [], ◌∷◌, ◌++◌, length, slice_get, Option, Some, None, refl, sym, ap, subst, ◌∙◌, bytes_eq, arith}
 use Rattle.std.proofs.lemmas.Slice.Eq.{bytes_eq-Decides}
 use Rattle.srb_terms.specs.declared.span.Span.{Span}
@@ -12,7 +12,7 @@ use Rattle.rb_tree.specs.declared.token.Shape.TheVariants as shape
 use Rattle.rb_expr.specs.declared.lists.Order.{Order}
 use Rattle.rb_expr.specs.declared.lists.Order.TheVariants as order
 use Rattle.rb_expr.specs.Reading.{after, skip_separators, words_of}
-use Rattle.rb_expr.specs.Lists.{order_of, is_keyword, is_block, is_some_block, passes_block, takes_comma, closed, behind_comma, behind_element, behind_last, behind_argument, is_among, noted, fresh_name}
+use Rattle.rb_expr.specs.Lists.{order_of, is_keyword, is_block, is_some_block, passes_block, takes_comma, closed, after_comma, after_element, after_last, after_argument, is_among, noted, fresh_name}
 use Rattle.rb_rules.specs.Tokens.{Is}
 use Rattle.rb_rules.specs.Spans.{last_of}
 use Rattle.rb_rules.specs.Forms.{AreOrdered, AreNamed, HasNoBlock, IsNot, names_of}
@@ -34,7 +34,7 @@ pub gap-more : {xs ys zs : List Token} → Gap xs ys → Gap ys zs → Gap xs zs
 gap-more (Closed _) h = h
 gap-more (Wide t xs ys is g) h = Wide t xs _ is (gap-more g h)
 
--- ---- behind an element
+-- ---- after an element
 
 -- what stands before this kind of closing bracket
 abbrev pub Ends : Bool → List Token → List Token → Type 0
@@ -50,9 +50,9 @@ abbrev pub Closes : (List Token → List Token → Type 0) → Shape → List To
 Closes G closer xs place ys = (c : Token) × Is closer c × (place ≡ c.span) × G xs (c ∷ ys) × Within xs (c ∷ ys)
 
 -- the closing bracket, or a comma
-abbrev pub Behind : Shape → List Token → Option Span → List Token → Type 0
-Behind closer xs (Some place) ys = Closes (Ends (takes_comma closer)) closer xs place ys
-Behind closer xs None ys = (c : Token) × (ps : List Token) × Is shape.Comma c × (xs ≡ c ∷ ps) × Gap ps ys × Within ps ys
+abbrev pub After : Shape → List Token → Option Span → List Token → Type 0
+After closer xs (Some place) ys = Closes (Ends (takes_comma closer)) closer xs place ys
+After closer xs None ys = (c : Token) × (ps : List Token) × Is shape.Comma c × (xs ≡ c ∷ ps) × Gap ps ys × Within ps ys
 
 abbrev AllClosed : (List Token → List Token → Type 0) → Shape → List Token → Option Span → List Token → Type 0
 AllClosed G closer xs (Some place) ys = Closes G closer xs place ys
@@ -65,8 +65,8 @@ closed-holds closer xs = follow closer (λ qs. Gap xs qs × Within xs qs) _ _ _ 
 closed-ends : (closer : Shape) (xs : List Token) → Holds (closed closer xs) (AllClosed (Ends (takes_comma closer)) closer xs)
 closed-ends closer xs = weaker (closed-holds closer xs) (elim [ Some place ↦ λ ys h. (h.0, h.1, h.2, ends-of (takes_comma closer) _ _ h.3, h.4) | None ↦ λ ys h. absurd h ])
 
-closed-behind : (closer : Shape) (xs : List Token) → Holds (closed closer xs) (Behind closer xs)
-closed-behind closer xs = weaker (closed-ends closer xs) (elim [ Some place ↦ λ ys h. h | None ↦ λ ys h. absurd h ])
+closed-after : (closer : Shape) (xs : List Token) → Holds (closed closer xs) (After closer xs)
+closed-after closer xs = weaker (closed-ends closer xs) (elim [ Some place ↦ λ ys h. h | None ↦ λ ys h. absurd h ])
 
 -- a comma and the closing bracket
 comma-closed : (closer : Shape) (t : Token) (ts qs : List Token) → Is shape.Comma t → takes_comma closer ≡ true → Gap ts qs → Within ts qs → Holds (closed closer qs) (AllClosed (Ends (takes_comma closer)) closer (t ∷ ts))
@@ -75,41 +75,41 @@ comma-closed closer t ts qs is comma g w = weaker (closed-holds closer qs) (elim
   | None ↦ λ ys h. absurd h
 ])
 
-comma-holds : (closer : Shape) (t : Token) (ts qs : List Token) → Is shape.Comma t → Gap ts qs → Within ts qs → Holds (behind_comma closer qs) (Behind closer (t ∷ ts))
-unfolding behind_comma
+comma-holds : (closer : Shape) (t : Token) (ts qs : List Token) → Is shape.Comma t → Gap ts qs → Within ts qs → Holds (after_comma closer qs) (After closer (t ∷ ts))
+unfolding after_comma
 comma-holds closer t ts qs is g w = choose
     (λ e. weaker (comma-closed closer t ts qs is (and-left _ _ e) g w) (elim [ Some place ↦ λ ys h. h | None ↦ λ ys h. absurd h ]))
-    (λ e. answered (Behind closer (t ∷ ts)) None qs (t, ts, is, refl, g, w))
+    (λ e. answered (After closer (t ∷ ts)) None qs (t, ts, is, refl, g, w))
 
-pub element-holds : (closer : Shape) (xs : List Token) → Holds (behind_element closer xs) (Behind closer xs)
-unfolding behind_element
-element-holds closer [] = closed-behind closer []
+pub element-holds : (closer : Shape) (xs : List Token) → Holds (after_element closer xs) (After closer xs)
+unfolding after_element
+element-holds closer [] = closed-after closer []
 element-holds closer (t ∷ ts) = testing
     (λ is. let g = gap ts in comma-holds closer t ts (skip_separators ts) is g.0 g.1)
-    (λ no. closed-behind closer (t ∷ ts))
+    (λ no. closed-after closer (t ∷ ts))
 
-last-holds : (closer : Shape) (xs : List Token) → Holds (behind_last closer xs) (AllClosed (Ends (takes_comma closer)) closer xs)
-unfolding behind_last
+last-holds : (closer : Shape) (xs : List Token) → Holds (after_last closer xs) (AllClosed (Ends (takes_comma closer)) closer xs)
+unfolding after_last
 last-holds closer xs = choose
     (λ e. let s = seen shape.Comma xs (and-right _ _ e) in
     subst (λ ys. Holds (closed closer (after xs)) (AllClosed (Ends (takes_comma closer)) closer ys)) (sym s.2)
     (comma-closed closer s.0 (after xs) (after xs) s.1 (and-left _ _ e) (Closed _) (within-self _)))
     (λ e. closed-ends closer xs)
 
--- behind an argument of this order
-abbrev pub BehindArgument : Shape → Order → List Token → Option Span → List Token → Type 0
-BehindArgument closer given xs (Some place) ys = Closes (Ends (takes_comma closer)) closer xs place ys
-BehindArgument closer given xs None ys = (c : Token) × (ps : List Token) × Is shape.Comma c × (xs ≡ c ∷ ps) × Gap ps ys × Within ps ys × (is_block given ≡ false)
+-- after an argument of this order
+abbrev pub AfterArgument : Shape → Order → List Token → Option Span → List Token → Type 0
+AfterArgument closer given xs (Some place) ys = Closes (Ends (takes_comma closer)) closer xs place ys
+AfterArgument closer given xs None ys = (c : Token) × (ps : List Token) × Is shape.Comma c × (xs ≡ c ∷ ps) × Gap ps ys × Within ps ys × (is_block given ≡ false)
 
-pub behind-argument-holds : (closer : Shape) (given : Order) (xs : List Token) → Holds (behind_argument closer given xs) (BehindArgument closer given xs)
-unfolding behind_argument
-behind-argument-holds closer order.Block xs = weaker (last-holds closer xs) (elim [ Some place ↦ λ ys h. h | None ↦ λ ys h. absurd h ])
-behind-argument-holds closer order.Positional xs = weaker (element-holds closer xs) (elim [ Some place ↦ λ ys h. h | None ↦ λ ys h. (h.0, h.1, h.2, h.3, h.4, h.5, refl) ])
-behind-argument-holds closer order.Keyword xs = weaker (element-holds closer xs) (elim [ Some place ↦ λ ys h. h | None ↦ λ ys h. (h.0, h.1, h.2, h.3, h.4, h.5, refl) ])
+pub after-argument-holds : (closer : Shape) (given : Order) (xs : List Token) → Holds (after_argument closer given xs) (AfterArgument closer given xs)
+unfolding after_argument
+after-argument-holds closer order.Block xs = weaker (last-holds closer xs) (elim [ Some place ↦ λ ys h. h | None ↦ λ ys h. absurd h ])
+after-argument-holds closer order.Positional xs = weaker (element-holds closer xs) (elim [ Some place ↦ λ ys h. h | None ↦ λ ys h. (h.0, h.1, h.2, h.3, h.4, h.5, refl) ])
+after-argument-holds closer order.Keyword xs = weaker (element-holds closer xs) (elim [ Some place ↦ λ ys h. h | None ↦ λ ys h. (h.0, h.1, h.2, h.3, h.4, h.5, refl) ])
 
 -- ---- orders
 
--- behind keyword arguments stand none by place
+-- after keyword arguments stand none by place
 abbrev pub Allowed : Order → Bool → Type 0
 Allowed order.Keyword keywords = Unit {0}
 Allowed order.Block keywords = Unit {0}
@@ -177,7 +177,7 @@ pub apart : (names : List (List ℕ)) (w v : List ℕ) → is_among (names ++ w 
 apart [] w v h = (refl, differs w v (or-left _ _ h))
 apart (n ∷ names) w v h = let rest = apart names w v (or-right (bytes_eq v n) _ h) in (neither _ _ (or-left (bytes_eq v n) _ h) rest.0, rest.1)
 
--- a name that is none of some is noted behind them
+-- a name that is none of some is noted after them
 pub noted-new : (names : List (List ℕ)) (w : List ℕ) → is_among names w ≡ false → noted names w ≡ names ++ w ∷ []
 noted-new names w e = ap (λ b. if b then names else names ++ w ∷ []) e
 

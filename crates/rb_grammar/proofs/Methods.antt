@@ -123,13 +123,13 @@ separator-after (suc d) s zs is h =
     let skips : skip_separators (s ∷ zs) ≡ skip_separators zs = ap (λ b. if b then skip_separators zs else s ∷ zs) separator in
     subst (λ us. Holds (statements.statements (parsed d) d true false us) (ABody (suc d) zs)) (sym skips) h
 
-body-behind : (d : ℕ) (zs ys : List Token) → Links zs ys → Holds (parsed d form.Body true ys) (ABody d zs)
-body-behind d zs ys (inl e) = subst (λ us. Holds (parsed d form.Body true us) (ABody d zs)) (sym e) ((sound d).body true zs)
-body-behind d zs ys (inr h) = subst (λ us. Holds (parsed d form.Body true us) (ABody d zs)) (sym h.2) (separator-after d h.0 zs h.1 ((sound d).body true zs))
+body-after : (d : ℕ) (zs ys : List Token) → Links zs ys → Holds (parsed d form.Body true ys) (ABody d zs)
+body-after d zs ys (inl e) = subst (λ us. Holds (parsed d form.Body true us) (ABody d zs)) (sym e) ((sound d).body true zs)
+body-after d zs ys (inr h) = subst (λ us. Holds (parsed d form.Body true us) (ABody d zs)) (sym h.2) (separator-after d h.0 zs h.1 ((sound d).body true zs))
 
 guarded-after : (d : ℕ) (zs ys : List Token) → Links zs ys → Holds (guarded d ys) (AGuarded d zs)
 unfolding guarded
-guarded-after d zs ys l = branches.guarded-after (parsed d) (sound d) d true zs ys (body-behind d zs ys l)
+guarded-after d zs ys l = branches.guarded-after (parsed d) (sound d) d true zs ys (body-after d zs ys l)
 
 within-links : (zs ys us : List Token) → Links zs ys → Within zs us → Within ys us
 within-links zs ys us (inl e) w = subst (λ qs. Within qs us) (sym e) w

@@ -39,7 +39,7 @@ unfolding spec.constant
 constant-holds [] = refused _ _
 constant-holds (t ∷ ts) = constant-at t.kind t.span ts
 
--- names from here on, behind those found
+-- names from here on, after those found
 abbrev NameRow : Bool → List PlacedName → List Token → List PlacedName → List Token → Type 0
 NameRow long found xs r ys = (n : PlacedName) × (more : List PlacedName) × (r ≡ found ++ n ∷ more) × Path long (n ∷ more) xs ys × Within xs ys
 
@@ -69,7 +69,7 @@ long-holds d xs = path-by true d [] xs
 end-same : (n : PlacedName) (more : List PlacedName) → end_of (n ∷ more) ≡ ((last_of n more).span).end
 end-same n more = ap end_at (last-got n more)
 
--- what stands behind the `<` of a class
+-- what stands after the `<` of a class
 abbrev Above : List Token → Reference → List Token → Type 0
 Above xs r ys = ((l : Token) → Is shape.Less l → Superclass (Some r) (l ∷ xs) ys) × Within xs ys
 

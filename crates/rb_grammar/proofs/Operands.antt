@@ -38,7 +38,7 @@ use Rattle.rb_grammar.proofs.Steps.{Holds, answered, refused, step, weaker, choo
 use Rattle.rb_grammar.proofs.Sound.{Sound, Primary, starts, used}
 use Rattle.rb_grammar.proofs.Lists.{and-left, element-holds}
 use Rattle.rb_grammar.proofs.Branches.{branch-holds, repeated-holds, choice-holds, guards-holds}
-use Rattle.rb_grammar.proofs.Calls.{Given, given-holds, Blocked, block-behind-holds}
+use Rattle.rb_grammar.proofs.Calls.{Given, given-holds, Blocked, block-after-holds}
 
 -- ---- numbers
 
@@ -141,7 +141,7 @@ module _ (nested : Form → Bool → Parser Tree) (ih : Sound nested) (turns : �
   abbrev Pair' : List Token → Pair Tree → List Token → Type 0
   Pair' xs p ys = DerivesPair p xs ys × Within xs ys
 
-  -- behind some pieces, the last of which ends with this token
+  -- after some pieces, the last of which ends with this token
   abbrev Pieced : ℕ → Token → List (Piece Tree) → List Token → Tree → List Token → Type 0
   Pieced start before found xs t ys = (more : List (Piece Tree)) × (last : Token) × (t ≡ tree.Text (found ++ more) (record { start = start; end = last.span.end })) × DerivesPieces more before last xs ys × Within (before ∷ xs) (last ∷ ys)
 
@@ -205,7 +205,7 @@ module _ (nested : Form → Bool → Parser Tree) (ih : Sound nested) (turns : �
   called-holds : (xs : List Token) → Holds (called nested turns free xs) (Primary free xs)
   unfolding called
   called-holds xs = naming shape.Identifier (Primary free) _ xs (λ n ns is. step (given-holds nested ih turns free n ns) (λ given ps g.
-      step (block-behind-holds nested ih turns free given.0 g.0 ps g.3) (λ b ys h. answered (Primary free (n ∷ ns)) _ _ (call-made n ns ps is given.0 given.1 b ys g h))))
+      step (block-after-holds nested ih turns free given.0 g.0 ps g.3) (λ b ys h. answered (Primary free (n ∷ ns)) _ _ (call-made n ns ps is given.0 given.1 b ys g h))))
 
   yield-made : (t : Token) (ts : List Token) → Is shape.Yield t → (given : Option (List (Argument Tree))) (end : ℕ) (ys : List Token) → Given nested ih turns free t ts (given, end) ys → Primary free (t ∷ ts) (tree.Yield given (record { start = t.span.start; end = end })) ys
   yield-made t ts is None end ys g =
@@ -260,7 +260,7 @@ module _ (nested : Form → Bool → Parser Tree) (ih : Sound nested) (turns : �
         ))
   ]))
 
-  -- behind the opening bracket and separators
+  -- after the opening bracket and separators
   array-made : (o : Token) (os ps : List Token) → Is shape.OpenBracket o → Gap os ps → Within os ps → (t : Tree) (ys : List Token) → Elements o.span.start [] ps t ys → Primary free (o ∷ os) t ys
   array-made o os ps is g w t ys m = subst (λ t. Primary free (o ∷ os) t ys) (sym m.3)
       (m.1, SomeArray _ _ _ _ _ _ _ _ is g m.4 m.5 m.6, within-token o (within-more w m.7), starts _ _ _ (rolls-Array _ _) refl, used _ _ _ _ _ (rolls-Array _ _) tt)

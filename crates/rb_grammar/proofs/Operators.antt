@@ -16,7 +16,7 @@ use Rattle.rb_expr.specs.declared.form.Form.{Form}
 use Rattle.rb_expr.specs.declared.form.Form.TheVariants as form
 use Rattle.rb_expr.specs.Reading.{Parser, sees, after, touches}
 use Rattle.rb_expr.specs.Shapes.{binary_of, level_of, ceiling, between, operator_between, sees_number, is_signed, is_sign, is_negation, prefix_by, prefix_of}
-use Rattle.rb_expr.specs.Operators.{unary_operation, binary_operation, prefixed_by, prefixed, powered, power, negated, climb_by, climb_from, climb, operation, alternatives, chosen, tern, tern_behind}
+use Rattle.rb_expr.specs.Operators.{unary_operation, binary_operation, prefixed_by, prefixed, powered, power, negated, climb_by, climb_from, climb, operation, alternatives, chosen, tern, tern_after}
 use Rattle.rb_expr.specs.Operators as spec
 use Rattle.rb_rules.specs.Tokens.{Is, IsAny, Touches, NUMBERS, IsBeforeNumber, IsRaised}
 use Rattle.rb_rules.specs.Spans.{across}
@@ -64,8 +64,8 @@ listed s = tt
 abbrev Follows : ℕ → ℕ → Type 0
 Follows base most = (most ≤ base) ⊎ ((most ≡ suc base) × (base ≢ 2))
 
-behind : (operator : Binary) (k : ℕ) → level_of operator ≡ suc k → Follows k (ceiling operator)
-behind operator k e = go (level_of operator == 3) refl
+level-follows : (operator : Binary) (k : ℕ) → level_of operator ≡ suc k → Follows k (ceiling operator)
+level-follows operator k e = go (level_of operator == 3) refl
   where
     go : (b : Bool) → (level_of operator == 3) ≡ b → Follows k (if b then 2 else level_of operator)
     go true three = let n : level_of operator ≡ 3 = grind (arith, nat_tests) in inl (omega arith)
@@ -145,7 +145,7 @@ module _ (nested : Form → Bool → Parser Tree) (ih : Sound nested) (turns : �
   prefixed-holds [] = weaker (post-holds nested ih turns free []) (λ t ys h. (h.0, h.1, h.2))
   prefixed-holds (u ∷ us) = prefix-by (shape_of u.kind) (is_sign (u ∷ us)) u us refl refl
 
-  -- behind an operand with its prefixes
+  -- after an operand with its prefixes
   powered-holds : (all : List Token) (left : Tree) (xs : List Token) → Front all left xs → Holds (powered nested turns free left xs) (Level 9 all)
   unfolding powered binary_operation spec.across
   powered-holds all left [] h = answered (Level 9 all) _ _ (Plainly _ _ _ _ h.0, h.1, h.2)
@@ -171,7 +171,7 @@ module _ (nested : Form → Bool → Parser Tree) (ih : Sound nested) (turns : �
 
   -- ---- operators between
 
-  -- how climbing goes on behind what derives at a level
+  -- how climbing goes on after what derives at a level
   abbrev Climbs : ℕ → ℕ → List Token → Type 0
   Climbs level n all = (most base : ℕ) (left : Tree) (xs : List Token) → level ≤ base → base ≤ 9 → Follows base most → Level base all left xs → Holds (climb_from nested turns free (suc level) n most left xs) (Level level all)
 
@@ -212,7 +212,7 @@ module _ (nested : Form → Bool → Parser Tree) (ih : Sound nested) (turns : �
       step (step (subst (λ m. Holds (nested (form.Operation m) free os) (λ t ys. DerivesLevel (suc k) free t os ys × Within os ys × Starts t os)) next (ih.level (suc k) (let b : suc k ≤ 9 = omega arith in b) free os))
       (λ right ys r. answered (Level k all) (tree.Binary operator o.span left right (across (span_of left) (span_of right))) ys
       (joined k base most all left o os operator less small top fo h row.3 right ys r.0, within-more h.1 (within-token o r.1), starts _ _ _ (rolls-Binary operator o.span left right (across (span_of left) (span_of right))) h.2)))
-      (λ longer ys l. again (ceiling operator) k longer ys low (let b : k ≤ 9 = omega arith in b) (behind operator k row.1) l)
+      (λ longer ys l. again (ceiling operator) k longer ys low (let b : k ≤ 9 = omega arith in b) (level-follows operator k row.1) l)
 
   climb-test : (level n : ℕ) (all : List Token) (again : Climbs level n all) (most base : ℕ) (left : Tree) (o : Token) (os : List Token) → level ≤ base → base ≤ 9 → Follows base most → Level base all left (o ∷ os) → (operator : Option Binary) → Listed (shape_of o.kind) operator →
       Holds (climb_by nested turns free (climb_from nested turns free (suc level) n) left (between (suc level) most operator) (o ∷ os)) (Level level all)
@@ -246,6 +246,6 @@ module _ (nested : Form → Bool → Parser Tree) (ih : Sound nested) (turns : �
   unfolding tern
   tern-holds xs = step (operation-holds 0 (let b : 0 ≤ 9 = omega arith in b) xs) (λ c ys h. chosen-holds xs c ys h)
 
-  pub behind-holds : (all : List Token) (first : Tree) (xs : List Token) → Front all first xs → Holds (tern_behind nested turns free first xs) (Term all)
-  unfolding tern_behind climb
-  behind-holds all first xs h = step (powered-holds all first xs h) (λ left ps l. step (climb-holds 0 turns all 9 9 left ps (let b : 0 ≤ 9 = omega arith in b) (let b : 9 ≤ 9 = omega arith in b) (inl (let b : 9 ≤ 9 = omega arith in b)) l) (λ c ys k. chosen-holds all c ys k))
+  pub after-holds : (all : List Token) (first : Tree) (xs : List Token) → Front all first xs → Holds (tern_after nested turns free first xs) (Term all)
+  unfolding tern_after climb
+  after-holds all first xs h = step (powered-holds all first xs h) (λ left ps l. step (climb-holds 0 turns all 9 9 left ps (let b : 0 ≤ 9 = omega arith in b) (let b : 9 ≤ 9 = omega arith in b) (inl (let b : 9 ≤ 9 = omega arith in b)) l) (λ c ys k. chosen-holds all c ys k))

@@ -14,7 +14,7 @@ use Rattle.rb_expr.specs.Reading.{Outcome, sees, after, skip_separators}
 use Rattle.rb_decl.specs.declared.parameter.Stage.{Stage}
 use Rattle.rb_decl.specs.declared.parameter.Stage.TheVariants as stage
 use Rattle.rb_decl.specs.Parameters as spec
-use Rattle.rb_decl.specs.Parameters.{stage_behind, is_among, fresh, noted, is_plain, is_first, is_last, plain, has_no_default, keyword, block, behind_comma, is_over, row_from, row, bracketed, bare, parameters_of}
+use Rattle.rb_decl.specs.Parameters.{stage_after, is_among, fresh, noted, is_plain, is_first, is_last, plain, has_no_default, keyword, block, after_comma, is_over, row_from, row, bracketed, bare, parameters_of}
 use Rattle.rb_rules.specs.Tokens.{Is, IsIdentifier, IsLabel}
 use Rattle.rb_rules.specs.Forms.{AreParameters, AreKinds, AreOptionalKinds, AreKeyKinds, kinds_of, AreDistinct, IsNot, names_of_parameters}
 use Rattle.rb_rules.specs.Grammar.{Gap, GapIn, DerivesParameter, DerivesParameterList, DerivesParameters}
@@ -62,7 +62,7 @@ last-in-order stage.Keyword param_kind.Block h = tt
 last-in-order stage.Block k h = tt
 last-in-order at param_kind.Rest h = absurd h
 
-more-in-order : (at : Stage) (k : ParamKind) (more : List ParamKind) → Fits k at → is_last (stage_behind k) ≡ false → InOrder (stage_behind k) more → InOrder at (k ∷ more)
+more-in-order : (at : Stage) (k : ParamKind) (more : List ParamKind) → Fits k at → is_last (stage_after k) ≡ false → InOrder (stage_after k) more → InOrder at (k ∷ more)
 more-in-order stage.Required param_kind.Required more h l o = o
 more-in-order stage.Optional param_kind.Required more h l o = absurd (cc)
 more-in-order stage.Keyword param_kind.Required more h l o = absurd (cc)
@@ -166,10 +166,10 @@ going-on at xs e = (or-left _ _ e, seen' (sees shape.Comma xs) (or-right (is_las
     seen' true e = refl
     seen' false e = absurd (cc)
 
-row-more : (bracketed : Bool) (at : Stage) (names : List (List ℕ)) (found : List (Parameter Tree)) (xs ps : List Token) (p : Parameter Tree) → AParameter at names xs p ps → is_over (stage_behind p.kind) ps ≡ false → (r : List (Parameter Tree)) (ys : List Token) →
-    Row bracketed (stage_behind p.kind) (noted names p.name) (found ++ p ∷ []) (behind_comma bracketed ps) r ys → Row bracketed at names found xs r ys
+row-more : (bracketed : Bool) (at : Stage) (names : List (List ℕ)) (found : List (Parameter Tree)) (xs ps : List Token) (p : Parameter Tree) → AParameter at names xs p ps → is_over (stage_after p.kind) ps ≡ false → (r : List (Parameter Tree)) (ys : List Token) →
+    Row bracketed (stage_after p.kind) (noted names p.name) (found ++ p ∷ []) (after_comma bracketed ps) r ys → Row bracketed at names found xs r ys
 row-more bracketed at names found xs ps p h over r ys m =
-    let on = going-on (stage_behind p.kind) ps over in
+    let on = going-on (stage_after p.kind) ps over in
     let s = seen shape.Comma ps on.1 in
     let here = subst (λ us. DerivesParameter p xs us × Within xs us) s.2 (h.0, h.1) in
     let g = gap-in bracketed (after ps) in
@@ -188,9 +188,9 @@ row-more bracketed at names found xs ps p h over r ys m =
 row-by : (d : ℕ) (bracketed : Bool) (n : ℕ) (at : Stage) (names : List (List ℕ)) (found : List (Parameter Tree)) (xs : List Token) → Holds (row_from d bracketed n at names found xs) (Row bracketed at names found xs)
 unfolding row_from
 row-by d bracketed zero at names found xs = refused _ _
-row-by d bracketed (suc n) at names found xs = step (parameter-holds d at names xs) (λ p ps h. choosing (is_over (stage_behind p.kind) ps)
+row-by d bracketed (suc n) at names found xs = step (parameter-holds d at names xs) (λ p ps h. choosing (is_over (stage_after p.kind) ps)
     (λ e. answered (Row bracketed at names found xs) (found ++ p ∷ []) ps (p, [], refl, LastParameter _ _ _ _ h.0, last-in-order at p.kind h.2, (h.3, tt), (tt, tt), h.1))
-    (λ e. weaker (row-by d bracketed n (stage_behind p.kind) (noted names p.name) (found ++ p ∷ []) (behind_comma bracketed ps)) (λ r ys m. row-more bracketed at names found xs ps p h e r ys m)))
+    (λ e. weaker (row-by d bracketed n (stage_after p.kind) (noted names p.name) (found ++ p ∷ []) (after_comma bracketed ps)) (λ r ys m. row-more bracketed at names found xs ps p h e r ys m)))
 
 row-holds : (d : ℕ) (bracketed : Bool) (xs : List Token) → Holds (row d bracketed xs) (Row bracketed stage.Required [] [] xs)
 unfolding row
@@ -198,7 +198,7 @@ row-holds d bracketed xs = row-by d bracketed d stage.Required [] [] xs
 
 -- ---- all parameters
 
--- The body of the method stands behind the first list. Before it the second may have one more separator.
+-- The body of the method stands after the first list. Before it the second may have one more separator.
 abbrev pub Links : List Token → List Token → Type 0
 Links zs ys = (ys ≡ zs) ⊎ ((s : Token) × Is shape.Separator s × (ys ≡ s ∷ zs))
 

@@ -48,7 +48,7 @@ pub each-end : {A : Type 0} (P : A → Type 0) (xs : List A) (x : A) → Each P 
 each-end P [] x all h = (h, tt)
 each-end P (y ∷ ys) x all h = (all.0, each-end P ys x all.1 h)
 
--- ---- tokens behind others
+-- ---- tokens after others
 
 pub stay : {xs : List Token} → Within xs xs
 stay {xs = xs} = within-self xs
@@ -57,19 +57,19 @@ stay {xs = xs} = within-self xs
 pub past : {xs ys : List Token} (t : Token) → Within xs (t ∷ ys) → Within xs ys
 past t w = go w (push t stay)
 
-one-behind : (front ys : List Token) (t : Token) → IsOneOf ys t → IsOneOf (front ++ ys) t
-one-behind [] ys t h = h
-one-behind (x ∷ front) ys t h = inr (one-behind front ys t h)
+one-after : (front ys : List Token) (t : Token) → IsOneOf ys t → IsOneOf (front ++ ys) t
+one-after [] ys t h = h
+one-after (x ∷ front) ys t h = inr (one-after front ys t h)
 
 pub one-of : {xs ys : List Token} (t : Token) → Within xs ys → IsOneOf ys t → IsOneOf xs t
-one-of {xs = xs} {ys = ys} t w h = subst (λ zs. IsOneOf zs t) (sym w.1) (one-behind w.0 ys t h)
+one-of {xs = xs} {ys = ys} t w h = subst (λ zs. IsOneOf zs t) (sym w.1) (one-after w.0 ys t h)
 
-order-behind : (front ys : List Token) (a b : Token) → AreInOrder ys a b → AreInOrder (front ++ ys) a b
-order-behind [] ys a b h = h
-order-behind (x ∷ front) ys a b h = inr (order-behind front ys a b h)
+order-after : (front ys : List Token) (a b : Token) → AreInOrder ys a b → AreInOrder (front ++ ys) a b
+order-after [] ys a b h = h
+order-after (x ∷ front) ys a b h = inr (order-after front ys a b h)
 
 in-order : {xs ys : List Token} (a b : Token) → Within xs ys → AreInOrder ys a b → AreInOrder xs a b
-in-order {xs = xs} {ys = ys} a b w h = subst (λ zs. AreInOrder zs a b) (sym w.1) (order-behind w.0 ys a b h)
+in-order {xs = xs} {ys = ys} a b w h = subst (λ zs. AreInOrder zs a b) (sym w.1) (order-after w.0 ys a b h)
 
 -- ---- places by tokens
 
@@ -82,8 +82,8 @@ abbrev pub Begins : List Token → Span → Type 0
 Begins [] s = ⊥
 Begins (f ∷ more) s = (s.start ≡ f.span.start) × Ends (f ∷ more) s.end
 
-pub ends-behind : {xs ys : List Token} {n : ℕ} → Within xs ys → Ends ys n → Ends xs n
-ends-behind w e = (e.0, one-of e.0 w e.1, e.2)
+pub ends-after : {xs ys : List Token} {n : ℕ} → Within xs ys → Ends ys n → Ends xs n
+ends-after w e = (e.0, one-of e.0 w e.1, e.2)
 
 pub ends-of : (xs : List Token) (s : Span) → Begins xs s → Ends xs s.end
 ends-of [] s h = absurd h
@@ -97,7 +97,7 @@ begins-at t xs = (refl, (t, inl refl, refl))
 pub begins-to : (t last : Token) (xs : List Token) → IsOneOf (t ∷ xs) last → Begins (t ∷ xs) (across t.span last.span)
 begins-to t last xs h = (refl, (last, h, refl))
 
--- from a token to one behind it
+-- from a token to one after it
 pub begins-from : {xs ys : List Token} (t last : Token) → Within xs (last ∷ ys) → Begins (t ∷ xs) (across t.span last.span)
 begins-from {xs = xs} t last w = begins-to t last xs (one-of last (push t w) (inl refl))
 
@@ -113,11 +113,11 @@ module _ (tokens : List Token) where
   abbrev pub Blocked : Block Tree → Type 0
   Blocked = DoesBlockStand tokens (StandsAt tokens)
 
-  -- the tree stands, begins where the tokens behind do, and ends where one of those ends
+  -- the tree stands, begins where the tokens after do, and ends where one of those ends
   abbrev pub Stood : List Token → Tree → Type 0
   Stood xs t = Begins xs (span_of t) × StandsAt tokens t
 
-  -- the tree stands, and ends where one of the tokens behind ends; so of other parts
+  -- the tree stands, and ends where one of the tokens after ends; so of other parts
   abbrev pub Ended : List Token → Tree → Type 0
   Ended xs t = Ends xs (span_of t).end × StandsAt tokens t
 
@@ -131,17 +131,17 @@ module _ (tokens : List Token) where
   BlockEnded xs b = Ends xs b.span.end × Blocked b
 
   pub ended : {xs ys : List Token} (t : Tree) → Within xs ys → Stood ys t → Ended xs t
-  ended {ys = ys} t w h = (ends-behind w (ends-of ys (span_of t) h.0), h.1)
+  ended {ys = ys} t w h = (ends-after w (ends-of ys (span_of t) h.0), h.1)
 
   pub all-ended : {xs ys : List Token} (ss : List Tree) → Within xs ys → Each (Ended ys) ss → Each (Ended xs) ss
-  all-ended {xs = xs} {ys = ys} ss w = each-weaker (Ended ys) (Ended xs) (λ t h. (ends-behind w h.0, h.1)) ss
+  all-ended {xs = xs} {ys = ys} ss w = each-weaker (Ended ys) (Ended xs) (λ t h. (ends-after w h.0, h.1)) ss
 
   pub all-argued : {xs ys : List Token} (given : List (Argument Tree)) → Within xs ys → Each (Argued ys) given → Each (Argued xs) given
-  all-argued {xs = xs} {ys = ys} given w = each-weaker (Argued ys) (Argued xs) (λ a h. (ends-behind w h.0, h.1)) given
+  all-argued {xs = xs} {ys = ys} given w = each-weaker (Argued ys) (Argued xs) (λ a h. (ends-after w h.0, h.1)) given
 
   pub if-ended : {xs ys : List Token} (b : Option (Block Tree)) → Within xs ys → IfThere (BlockEnded ys) b → IfThere (BlockEnded xs) b
   if-ended None w h = h
-  if-ended (Some b) w h = (ends-behind w h.0, h.1)
+  if-ended (Some b) w h = (ends-after w h.0, h.1)
 
   pub argued : (xs : List Token) (given : List (Argument Tree)) → Each (Argued xs) given → Arguments given
   argued xs = each-weaker (Argued xs) (DoesArgumentStand tokens (StandsAt tokens)) (λ a h. h.1)

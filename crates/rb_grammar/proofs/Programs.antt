@@ -50,7 +50,7 @@ module-holds d at xs = taking shape.Module (AHead at) _ xs (λ k ks is. step (pa
     answered (AHead at (k ∷ ks)) (heads.Module k.span.start names) qs
     ((λ b e us s zs eq separator hb ends. ModuleOf _ _ _ _ _ _ _ _ _ is (subst (λ qs. Path (is_top at) names ks qs) eq hn.0) separator hb ends), within-token k hn.1)))
 
--- the head and the separator behind it
+-- the head and the separator after it
 abbrev AFront : Site → List Token → Head → List Token → Type 0
 AFront at xs h zs = ((b : Tree) (e : Token) (us : List Token) → DerivesBody Member true b zs (e ∷ us) → Is shape.End e → DerivesDeclaration at (tree_of h b e.span.end) xs us) × Within xs zs
 

@@ -25,7 +25,7 @@ use Rattle.rb_tree.specs.declared.syntax.Parameter.{Parameter}
 use Rattle.rb_rules.specs.Tokens.{IsOneOf}
 use Rattle.rb_rules.specs.Spans.{across, last_of}
 use Rattle.rb_rules.specs.Forms.{Site}
-use Rattle.rb_rules.specs.Grammar.{named_call, front_span, Gap, GapIn, Then, BarNames, Bars, Path, Superclass, MethodName, Owner, Parted, RescueVariable, DerivesBody, DerivesMore, DerivesStatement, DerivesModified, DerivesSimple, DerivesValue, DerivesTarget, DerivesCallee, DerivesArguments, DerivesArgument, DerivesTerm, DerivesLevel, DerivesPrefixed, DerivesOperand, DerivesSuffix, DerivesIndex, DerivesEnd, DerivesBrackets, DerivesBlockBehind, DerivesBlock, DerivesDo, DerivesPrimary, DerivesPieces, DerivesElements, DerivesPairs, DerivesPair, DerivesArms, DerivesElse, DerivesSubject, DerivesWhens, DerivesPatterns, DerivesGuarded, DerivesRescues, DerivesRaised, DerivesEnsure, DerivesDeclaration, DerivesMethod, DerivesParameters, DerivesParameterList, DerivesParameter}
+use Rattle.rb_rules.specs.Grammar.{named_call, front_span, Gap, GapIn, Then, BarNames, Bars, Path, Superclass, MethodName, Owner, Parted, RescueVariable, DerivesBody, DerivesMore, DerivesStatement, DerivesModified, DerivesSimple, DerivesValue, DerivesTarget, DerivesCallee, DerivesArguments, DerivesArgument, DerivesTerm, DerivesLevel, DerivesPrefixed, DerivesOperand, DerivesSuffix, DerivesIndex, DerivesEnd, DerivesBrackets, DerivesBlockAfter, DerivesBlock, DerivesDo, DerivesPrimary, DerivesPieces, DerivesElements, DerivesPairs, DerivesPair, DerivesArms, DerivesElse, DerivesSubject, DerivesWhens, DerivesPatterns, DerivesGuarded, DerivesRescues, DerivesRaised, DerivesEnsure, DerivesDeclaration, DerivesMethod, DerivesParameters, DerivesParameterList, DerivesParameter}
 use Rattle.rb_rules.specs.Grammar.Gap.{Closed, Wide}
 use Rattle.rb_rules.specs.Grammar.GapIn.{Tight, Loose}
 use Rattle.rb_rules.specs.Grammar.Then.{Word, Line, LineWord}
@@ -53,7 +53,7 @@ use Rattle.rb_rules.specs.Grammar.DerivesSuffix.{Calls, Within as WithinName, In
 use Rattle.rb_rules.specs.Grammar.DerivesIndex.{Index}
 use Rattle.rb_rules.specs.Grammar.DerivesEnd.{NoComma, LastComma}
 use Rattle.rb_rules.specs.Grammar.DerivesBrackets.{NoBrackets, EmptyBrackets, Brackets}
-use Rattle.rb_rules.specs.Grammar.DerivesBlockBehind.{NoBlock, SomeBlock}
+use Rattle.rb_rules.specs.Grammar.DerivesBlockAfter.{NoBlock, SomeBlock}
 use Rattle.rb_rules.specs.Grammar.DerivesBlock.{Braces, DoEnd}
 use Rattle.rb_rules.specs.Grammar.DerivesDo.{NoDo, SomeDo}
 use Rattle.rb_rules.specs.Grammar.DerivesPrimary.{WholeNumber, FloatNumber, SignedWhole, SignedFloat, String, SymbolName, InstanceName, ConstantName, FromTop, SelfPlace, NilPlace, TruePlace, FalsePlace, NameAlone, CallWithBrackets, CallWithBlock, Yields, Supers, EmptyArray, SomeArray, EmptyHash, SomeHash, InParens, Branches, Loops, Guards, Cases}
@@ -66,7 +66,7 @@ use Rattle.rb_rules.specs.Grammar.DerivesElse.{NoElse, SomeElse}
 use Rattle.rb_rules.specs.Grammar.DerivesSubject.{NoSubject, SomeSubject}
 use Rattle.rb_rules.specs.Grammar.DerivesWhens.{NoWhen, MoreWhens}
 use Rattle.rb_rules.specs.Grammar.DerivesPatterns.{LastPattern, MorePatterns}
-use Rattle.rb_rules.specs.Grammar.Parted.{BehindNothing, BehindSeparator}
+use Rattle.rb_rules.specs.Grammar.Parted.{AfterNothing, AfterSeparator}
 use Rattle.rb_rules.specs.Grammar.RescueVariable.{NoVariable, Bound}
 use Rattle.rb_rules.specs.Grammar.DerivesGuarded.{Unrescued, Rescued}
 use Rattle.rb_rules.specs.Grammar.DerivesRescues.{NoRescue, MoreRescues}
@@ -80,7 +80,7 @@ use Rattle.rb_rules.specs.Grammar.DerivesParameter.{Required, Optional, Required
 use Rattle.rb_grammar.specs.Places.{Each, IfThere, IsPlaced, IsNamePlaced, IsReferencePlaced, DoesPieceStand, DoesPairStand, DoesArmStand, DoesWhenStand, DoesRescueStand, DoesGuardedStand, DoesParameterStand, StandsAt, TreesStandAtTokens}
 use Rattle.rb_grammar.proofs.Steps.{Within, within-token as push, within-more as go}
 use Rattle.rb_grammar.proofs.Placed as node
-use Rattle.rb_grammar.proofs.Placed.{each-last, each-weaker, each-end, stay, past, one-of, Ends, Begins, ends-behind, ends-of, begins-at, begins-to, begins-from, begins-across, Stood, Ended, Argued, Suffixed as SuffixEnded, Arguments, Blocked, BlockEnded, ended, all-ended, all-argued, if-ended, argued, placed, token-placed}
+use Rattle.rb_grammar.proofs.Placed.{each-last, each-weaker, each-end, stay, past, one-of, Ends, Begins, ends-after, ends-of, begins-at, begins-to, begins-from, begins-across, Stood, Ended, Argued, Suffixed as SuffixEnded, Arguments, Blocked, BlockEnded, ended, all-ended, all-argued, if-ended, argued, placed, token-placed}
 
 -- ---- separators
 
@@ -102,8 +102,8 @@ end-of (NoComma _ _ g) = gap g
 end-of (LastComma c _ _ _ g) = push c (gap g)
 
 parted : {before : Tree} {xs ys : List Token} → Parted before xs ys → Within xs ys
-parted (BehindNothing _) = stay
-parted (BehindSeparator _ t _ _) = push t stay
+parted (AfterNothing _) = stay
+parted (AfterSeparator _ t _ _) = push t stay
 
 own : {b : Bool} {xs ys : List Token} → Owner b xs ys → Within xs ys
 own (Other _) = stay
@@ -164,7 +164,7 @@ module _ (tokens : List Token) where
     begins-at t (c ∷ xs),
     (
       (ends-of (t ∷ c ∷ xs) t.span (begins-at t (c ∷ xs)), token-placed tokens t i),
-      each-weaker (NameEnded xs) (NameEnded (t ∷ c ∷ xs)) (λ n h. (ends-behind (push t (push c stay)) h.0, h.1)) more a.2,
+      each-weaker (NameEnded xs) (NameEnded (t ∷ c ∷ xs)) (λ n h. (ends-after (push t (push c stay)) h.0, h.1)) more a.2,
     ),
   )
 
@@ -182,7 +182,7 @@ module _ (tokens : List Token) where
   superclass (NamedFromTop l c n more xs _ _ _ d) i = let a = path-of d (past c (past l i)) in (
     push l (push c a.0),
     (
-      placed tokens (past l i) (begins-across (c ∷ xs) c.span (last_of n more).span (begins-at c xs) (ends-behind (push c stay) (each-last (NameEnded xs) n more a.2.0 a.2.1).0)),
+      placed tokens (past l i) (begins-across (c ∷ xs) c.span (last_of n more).span (begins-at c xs) (ends-after (push c stay) (each-last (NameEnded xs) n more a.2.0 a.2.1).0)),
       names-of xs (n ∷ more) a.2,
     ),
   )
@@ -196,7 +196,7 @@ module _ (tokens : List Token) where
   call-of : (xs ys : List Token) (d : Token) (how : Dot) (n : Token) (w : List ℕ) → In xs → Within xs (d ∷ n ∷ ys) → SuffixEnded tokens xs (named_call d how n w)
   call-of xs ys d how n w i v =
       let b = begins-from d n (stay {xs = n ∷ ys}) in
-      (ends-behind v (ends-of (d ∷ n ∷ ys) (across d.span n.span) b), (placed tokens (go i v) b, token-placed tokens n (go i (past d v)), tt, tt))
+      (ends-after v (ends-of (d ∷ n ∷ ys) (across d.span n.span) b), (placed tokens (go i v) b, token-placed tokens n (go i (past d v)), tt, tt))
 
   -- ---- the forms
 
@@ -234,7 +234,7 @@ module _ (tokens : List Token) where
     value (Computes _ _ o operator x v _ _ _ d _ k) i = let a = target d i in let u = past o a.0 in let b = value k (go i u) in
         (go u b.0, node.operator-assign tokens i o.span operator x v (token-placed tokens o (go i a.0)) a.1 (ended tokens v u b.1))
     value (Command _ _ x given b _ _ _ _ d _ e _ k _) i =
-        let c = callee d i in let a = arguments e (go i c.0) in let u = go c.0 a.0 in let l = do-behind k (go i u) in
+        let c = callee d i in let a = arguments e (go i c.0) in let u = go c.0 a.0 in let l = do-after k (go i u) in
         (go u l.0, node.command tokens i x given b c.1 (all-argued tokens given c.0 a.1) (if-ended tokens b u l.1))
 
     pub target : {constants free : Bool} {t : Tree} {xs ys : List Token} → DerivesTarget constants free t xs ys → In xs → Within xs ys × Stood tokens xs t
@@ -244,7 +244,7 @@ module _ (tokens : List Token) where
     target (Attribute _ _ _ d n r ss w xs ys e _ _) i = let a = operand e i in
         (past n (past d a.0), node.post-more tokens i r ss (named_call d dot.Plain n w) a.1 a.2 (call-of xs ys d dot.Plain n w i a.0))
     target (Element _ _ _ _ r ss s _ _ _ e k) i = let a = operand e i in let b = index k (go i a.0) in
-        (go a.0 b.0, node.post-more tokens i r ss s a.1 a.2 (ends-behind a.0 b.1.0, b.1.1))
+        (go a.0 b.0, node.post-more tokens i r ss s a.1 a.2 (ends-after a.0 b.1.0, b.1.1))
 
     pub callee : {free : Bool} {t : Tree} {xs ys : List Token} → DerivesCallee free t xs ys → In xs → Within xs ys × Stood tokens xs t
     callee (Own _ t w xs _) i = (push t stay, node.name tokens i w t.span (begins-at t xs))
@@ -287,13 +287,13 @@ module _ (tokens : List Token) where
     pub operand : {free : Bool} {p : Tree} {ss : List (Suffix Tree)} {last : Token} {xs ys : List Token} → DerivesOperand free p ss last xs ys → In xs → Within xs ys × Stood tokens xs p × Each (SuffixEnded tokens xs) ss
     operand (Bare _ _ _ _ _ d) i = let a = primary d i in (a.0, a.1, tt)
     operand (Suffixed _ _ _ _ ss s xs _ _ d e) i = let a = operand d i in let b = suffix e (go i a.0) in
-        (go a.0 b.0, a.1, each-end (SuffixEnded tokens xs) ss s a.2 (ends-behind a.0 b.1.0, b.1.1))
+        (go a.0 b.0, a.1, each-end (SuffixEnded tokens xs) ss s a.2 (ends-after a.0 b.1.0, b.1.1))
 
     suffix : {free : Bool} {s : Suffix Tree} {before last : Token} {xs ys : List Token} → DerivesSuffix free s before last xs ys → In xs → Within xs ys × SuffixEnded tokens xs s
     suffix (Calls _ _ d n _ last _ _ _ _ xs _ _ _ _ e k _) i =
         let u = push d (push n stay) in
         let a = brackets e u (inr (inl refl)) (go i u) in let v = go u a.0 in
-        let b = block-behind k v a.1 (go i v) in
+        let b = block-after k v a.1 (go i v) in
         let p = begins-to d last (n ∷ xs) b.1 in
         (go v b.0, (ends-of (d ∷ n ∷ xs) (across d.span last.span) p, (placed tokens i p, token-placed tokens n (past d i), a.2, b.2)))
     suffix (WithinName _ _ c n _ xs _ _) i = let p = begins-from c n (stay {xs = n ∷ xs}) in
@@ -311,9 +311,9 @@ module _ (tokens : List Token) where
     brackets (Brackets _ o c given _ ps _ _ _ g d _ k _) u h i = let a = arguments d (go (past o i) (gap g)) in let v = push o (go (gap g) (go a.0 (gap k))) in
         (past c v, one-of c (go u v) (inl refl), argued tokens ps given a.1)
 
-    block-behind : {free : Bool} {b : Option (Block Tree)} {before last : Token} {xs ys zs : List Token} → DerivesBlockBehind free b before last xs ys → Within zs xs → IsOneOf zs before → In xs → Within xs ys × IsOneOf zs last × IfThere (Blocked tokens) b
-    block-behind (NoBlock _ _ _) u h i = (stay, h, tt)
-    block-behind (SomeBlock _ _ last _ _ _ d) u h i = let a = block d i in (a.0, one-of last u a.1, a.2.1)
+    block-after : {free : Bool} {b : Option (Block Tree)} {before last : Token} {xs ys zs : List Token} → DerivesBlockAfter free b before last xs ys → Within zs xs → IsOneOf zs before → In xs → Within xs ys × IsOneOf zs last × IfThere (Blocked tokens) b
+    block-after (NoBlock _ _ _) u h i = (stay, h, tt)
+    block-after (SomeBlock _ _ last _ _ _ d) u h i = let a = block d i in (a.0, one-of last u a.1, a.2.1)
 
     block : {free : Bool} {b : Block Tree} {last : Token} {xs ys : List Token} → DerivesBlock free b last xs ys → In xs → Within xs ys × IsOneOf xs last × BlockEnded tokens xs b
     block (Braces _ o c _ _ xs _ _ _ k d _) i =
@@ -323,9 +323,9 @@ module _ (tokens : List Token) where
         let a = bars k (past o i) in let b = body d (go (past o i) a.0) in let u = go a.0 b.0 in let p = begins-from o c u in
         (push o (past c u), one-of c (push o u) (inl refl), (ends-of (o ∷ xs) (across o.span c.span) p, (placed tokens i p, a.1, b.1)))
 
-    do-behind : {free : Bool} {b : Option (Block Tree)} {xs ys : List Token} → DerivesDo free b xs ys → In xs → Within xs ys × IfThere (BlockEnded tokens xs) b
-    do-behind (NoDo _ _) i = (stay, tt)
-    do-behind (SomeDo _ _ _ _ _ _ d) i = let a = block d i in (a.0, a.2)
+    do-after : {free : Bool} {b : Option (Block Tree)} {xs ys : List Token} → DerivesDo free b xs ys → In xs → Within xs ys × IfThere (BlockEnded tokens xs) b
+    do-after (NoDo _ _) i = (stay, tt)
+    do-after (SomeDo _ _ _ _ _ _ d) i = let a = block d i in (a.0, a.2)
 
     primary : {free : Bool} {t : Tree} {last : Token} {xs ys : List Token} → DerivesPrimary free t last xs ys → In xs → Within xs ys × Stood tokens xs t
     primary (WholeNumber _ t w xs _) i = (push t stay, node.whole tokens i None w t.span (begins-at t xs))
@@ -344,7 +344,7 @@ module _ (tokens : List Token) where
     primary (FalsePlace _ t xs _) i = (push t stay, node.false-word tokens i t.span (begins-at t xs))
     primary (NameAlone _ t w xs _) i = (push t stay, node.name tokens i w t.span (begins-at t xs))
     primary (CallWithBrackets _ t _ last w given b xs _ _ _ d e _) i =
-        let u = push t stay in let a = brackets d u (inl refl) (past t i) in let v = push t a.0 in let c = block-behind e v a.1 (go i v) in
+        let u = push t stay in let a = brackets d u (inl refl) (past t i) in let v = push t a.0 in let c = block-after e v a.1 (go i v) in
         (go v c.0, node.call tokens i w t.span (Some given) b (across t.span last.span) (token-placed tokens t i) a.2 c.2 (begins-to t last xs c.1))
     primary (CallWithBlock _ t last w b xs _ _ d) i = let a = block d (past t i) in
         (push t a.0, node.call tokens i w t.span None (Some b) (across t.span last.span) (token-placed tokens t i) tt a.2.1 (begins-to t last xs (inr a.1)))

@@ -26,14 +26,14 @@ use Rattle.rb_expr.specs.Reading.{Parser, start_of, sees, peek, skip_separators}
 use Rattle.rb_expr.specs.Lists.{end_with, end_of_argument}
 use Rattle.rb_expr.specs.Shapes.{begins_value, begins_statement, has_value, has_prefix, jump_of, modifier_of, assigning_of}
 use Rattle.rb_expr.specs.Operators as operators
-use Rattle.rb_expr.specs.Statements.{ending_of, is_target, is_plain_target, is_callee, begin_arguments, other_follower, operator_follower, follower_by, follower_of, assigned, operator_assigned, command, followed_by, followed, from_operand, jump_value, simple_by, simple, modified, modifiers_by, modifiers_from, modifiers, may_modify, allowed, modifier_behind, ended, statement, body_from, body_start, statements}
+use Rattle.rb_expr.specs.Statements.{ending_of, is_target, is_plain_target, is_callee, begin_arguments, other_follower, operator_follower, follower_by, follower_of, assigned, operator_assigned, command, followed_by, followed, from_operand, jump_value, simple_by, simple, modified, modifiers_by, modifiers_from, modifiers, may_modify, allowed, modifier_after, ended, statement, body_from, body_start, statements}
 use Rattle.rb_expr.specs.Statements as spec
 use Rattle.rb_rules.specs.Tokens.{Is, IsOneOf, StartsWith}
 use Rattle.rb_rules.specs.Spans.{across, last_of, argument_span, block_or}
 use Rattle.rb_rules.specs.Forms.{Site, is_open, ASSIGNMENTS, MODIFIERS, NO_COMMAND, is_begin_at, is_begin, MayModify, AreOrdered}
 use Rattle.rb_rules.specs.Grammar.{Gap, IsRow, MODIFIER_WORDS, JUMP_WORDS, body_of, span_of_arguments, Parted, DerivesBody, DerivesMore, DerivesStatement, DerivesModified, DerivesSimple, DerivesValue, DerivesTarget, DerivesCallee, DerivesArguments, DerivesPrefixed}
 use Rattle.rb_rules.specs.Grammar.Gap.{Closed, Wide}
-use Rattle.rb_rules.specs.Grammar.Parted.{BehindNothing, BehindSeparator}
+use Rattle.rb_rules.specs.Grammar.Parted.{AfterNothing, AfterSeparator}
 use Rattle.rb_rules.specs.Grammar.DerivesBody.{NoStatement, Statements}
 use Rattle.rb_rules.specs.Grammar.DerivesMore.{NoMore, Another}
 use Rattle.rb_rules.specs.Grammar.DerivesStatement.{Simply}
@@ -45,7 +45,7 @@ use Rattle.rb_grammar.proofs.Sound.{Sound, Starts, Uses, starts}
 use Rattle.rb_grammar.proofs.Lists.{and-left, and-right}
 use Rattle.rb_grammar.proofs.Calls.{BareRow, bare-holds, Commanded, command-block-holds}
 use Rattle.rb_grammar.proofs.Suffixes.{post-holds}
-use Rattle.rb_grammar.proofs.Operators.{tern-holds, behind-holds}
+use Rattle.rb_grammar.proofs.Operators.{tern-holds, after-holds}
 
 -- ---- tables of words and operators
 
@@ -211,8 +211,8 @@ module _ (nested : Form → Bool → Parser Tree) (ih : Sound nested) (turns : �
   abbrev Operand : List Token → Tree → Ending → List Token → Type 0
   Operand all t e xs = DerivesPrefixed free t all xs × Within all xs × Starts t all × Uses e free t all xs
 
-  rest-holds : (constants : Bool) (all : List Token) (first : Tree) (e : Ending) (xs : List Token) → Operand all first e xs → Holds (operators.tern_behind nested turns free first xs) (Value constants all)
-  rest-holds constants all first e xs h = weaker (behind-holds nested ih turns free all first xs (h.0, h.1, h.2)) (λ t ys k. (Term _ _ _ _ _ k.0, k.1, k.2))
+  rest-holds : (constants : Bool) (all : List Token) (first : Tree) (e : Ending) (xs : List Token) → Operand all first e xs → Holds (operators.tern_after nested turns free first xs) (Value constants all)
+  rest-holds constants all first e xs h = weaker (after-holds nested ih turns free all first xs (h.0, h.1, h.2)) (λ t ys k. (Term _ _ _ _ _ k.0, k.1, k.2))
 
   other-holds : (constants : Bool) (all : List Token) (first : Tree) (e : Ending) (xs : List Token) → Operand all first e xs → Holds (followed_by nested turns free first (other_follower e (peek xs)) xs) (Value constants all)
   other-holds constants all first e xs h = go (is_callee e && begin_arguments (peek xs)) refl
@@ -303,7 +303,7 @@ module _ (nested : Form → Bool → Parser Tree) (ih : Sound nested) (turns : �
       (Modified _ _ _ _ _ _ _ _ _ row.0 row.1 h.2 d, within-token m (within-more h.3 k.1), s ∙ starts _ _ _ (rolls-Modified inner word h.0 (across (span_of inner) (span_of h.0))) refl)))
 
   modifiers-from : (n : ℕ) (inner : Tree) (xs : List Token) → Holds (modifiers_from nested turns free n inner xs) (WithModifiers inner xs)
-  unfolding modifiers_from modifier_behind
+  unfolding modifiers_from modifier_after
   modifiers-from zero inner xs = refused _ _
   modifiers-from (suc n) inner [] = answered (WithModifiers inner []) inner [] (Unmodified _ _ _, within-self _, refl)
   modifiers-from (suc n) inner (m ∷ ms) = modifiers-by n (modifiers-from n) inner m ms (allowed inner (modifier_of (Some (shape_of m.kind)))) (allowing inner (shape_of m.kind) (modifier_of (Some (shape_of m.kind))) (modifying (shape_of m.kind)))
@@ -334,7 +334,7 @@ module _ (nested : Form → Bool → Parser Tree) (ih : Sound nested) (turns : �
   last-separator t ts zs is (Closed _) = (t, is, Closed _)
   last-separator t ts zs is (Wide u us _ is2 g) = let r = last-separator u us zs is2 g in (r.0, r.1, Wide _ _ _ is r.2)
 
-  -- statements from here on, and what is left behind them and separators
+  -- statements from here on, and what is left after them and separators
   abbrev Row : Site → List Token → List Tree → List Token → Type 0
   Row at xs [] ys = (begins_statement xs ≡ false) × (xs ≡ ys)
   Row at xs (s ∷ ss) ys = (qs rs : List Token) × (begins_statement xs ≡ true) × DerivesStatement at free s xs qs × DerivesMore at free ss qs rs × Gap rs ys × Starts s xs × Divided rs ys
@@ -342,7 +342,7 @@ module _ (nested : Form → Bool → Parser Tree) (ih : Sound nested) (turns : �
   abbrev Rest : Site → ℕ → ℕ → List Tree → List Token → Tree → List Token → Type 0
   Rest at start end found xs t ys = (ss : List Tree) × (t ≡ tree.Body (found ++ ss) (record { start = start; end = end_by end ss })) × Row at xs ss ys × Within xs ys
 
-  -- behind separators
+  -- after separators
   parted : (qs : List Token) → sees shape.Separator qs ≡ true → (t : Token) × (ts : List Token) × (qs ≡ t ∷ ts) × Is shape.Separator t × Gap ts (skip_separators qs)
   parted [] e = absurd (cc)
   parted (t ∷ ts) e = (t, ts, refl, same _ _ e, subst (λ zs. Gap ts zs) (ap (λ b. if b then skip_separators ts else t ∷ ts) (sym e)) (gap ts).0)
@@ -373,12 +373,12 @@ module _ (nested : Form → Bool → Parser Tree) (ih : Sound nested) (turns : �
 
   body-made : (at : Site) (all xs : List Token) → Gap all xs → Within all xs → (ss : List Tree) (ys : List Token) → Row at xs ss ys → Within xs ys → Body at all (tree.Body ss (record { start = body_start xs; end = end_by 0 ss })) ys
   body-made at all xs g w [] ys h v = let d : DerivesBody at free (body_of []) all ys = NoStatement _ _ _ _ (subst (λ zs. Gap all zs) h.1 g) in
-      subst (λ b. Body at all (tree.Body [] (record { start = if b then start_of xs else 0; end = 0 })) ys) (sym h.0) (d, within-more w v, λ e. (ys, d, BehindNothing _))
+      subst (λ b. Body at all (tree.Body [] (record { start = if b then start_of xs else 0; end = 0 })) ys) (sym h.0) (d, within-more w v, λ e. (ys, d, AfterNothing _))
   body-made at all xs g w (s ∷ ss) ys h v =
       subst (λ b. Body at all (tree.Body (s ∷ ss) (record { start = if b then start_of xs else 0; end = end_by (span_of s).end ss })) ys) (sym h.2)
       (subst (λ n. Body at all (tree.Body (s ∷ ss) (record { start = n; end = end_by (span_of s).end ss })) ys) h.6
       (subst (λ n. Body at all (tree.Body (s ∷ ss) (record { start = (span_of s).start; end = n })) ys) (sym (last-end s ss))
-      (Statements _ _ _ _ _ _ _ _ _ g h.3 h.4 h.5, within-more w v, λ e. let l = h.7 e in (l.0 ∷ ys, Statements _ _ _ _ _ _ _ _ _ g h.3 h.4 l.2, BehindSeparator _ _ _ l.1))))
+      (Statements _ _ _ _ _ _ _ _ _ g h.3 h.4 h.5, within-more w v, λ e. let l = h.7 e in (l.0 ∷ ys, Statements _ _ _ _ _ _ _ _ _ g h.3 h.4 l.2, AfterSeparator _ _ _ l.1))))
 
   pub body-holds : (at : Site) (xs : List Token) → Holds (spec.body nested turns free (is_open at) xs) (Body at xs)
   unfolding spec.body statements

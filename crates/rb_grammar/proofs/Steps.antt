@@ -107,7 +107,7 @@ taking-this s Q f t ts k = by (same_shape (shape_of t.kind) s) refl
     by true e = k (same (shape_of t.kind) s e)
     by false e = record { told = tt }
 
--- a token of this shape behind what has been read
+-- a token of this shape after what has been read
 pub follow : {B : Type 0} (s : Shape) (D : List Token → Type 0) (Q : B → List Token → Type 0) (f : Span → Parser B) (ps : List Token) → D ps → ((t : Token) (ts : List Token) → Is s t → D (t ∷ ts) → Holds (f t.span ts) Q) → Holds (and_then (expect s ps) f) Q
 follow s D Q f [] d k = record { told = tt }
 follow s D Q f (t ∷ ts) d k = by (same_shape (shape_of t.kind) s) refl

@@ -27,7 +27,7 @@ use Rattle.rb_rules.specs.Spans.{across, last_of, suffix_span}
 use Rattle.rb_rules.specs.Forms.{AreOrdered}
 use Rattle.rb_rules.specs.Grammar.{IsRow, DOTS, posted, named_call, DerivesArguments, DerivesEnd, DerivesOperand, DerivesSuffix, DerivesIndex, DerivesPrefixed}
 use Rattle.rb_rules.specs.Grammar.DerivesBrackets.{NoBrackets}
-use Rattle.rb_rules.specs.Grammar.DerivesBlockBehind.{NoBlock}
+use Rattle.rb_rules.specs.Grammar.DerivesBlockAfter.{NoBlock}
 use Rattle.rb_rules.specs.Grammar.DerivesSuffix.{Calls, Within as Inner, Indexed}
 use Rattle.rb_rules.specs.Grammar.DerivesIndex.{Index}
 use Rattle.rb_rules.specs.Grammar.DerivesOperand.{Bare, Suffixed}
@@ -37,7 +37,7 @@ use Rattle.rb_rules.specs.Grammar.DerivesCallee.{Of}
 use Rattle.rb_grammar.proofs.Steps.{Holds, answered, refused, step, choosing, naming, Within, within-self, within-token, within-more, gap, identifier, constant}
 use Rattle.rb_grammar.proofs.Sound.{Sound, Starts, Uses, starts, used}
 use Rattle.rb_grammar.proofs.Lists.{last-got}
-use Rattle.rb_grammar.proofs.Calls.{Given, given-holds, Blocked, block-behind-holds, index-holds}
+use Rattle.rb_grammar.proofs.Calls.{Given, given-holds, Blocked, block-after-holds, index-holds}
 use Rattle.rb_grammar.proofs.Operands.{primary-holds}
 
 -- ---- the last of a list
@@ -88,7 +88,7 @@ may-index before o os all w e =
     ⊎_elim (λ k. inr (closing _ k)) (λ k. inl (touch before o os k)) (either _ _ h)
 
 module _ (nested : Form → Bool → Parser Tree) (ih : Sound nested) (turns : ℕ) (free : Bool) where
-  -- a suffix behind a token; with an operand before it, what both may be used as
+  -- a suffix after a token; with an operand before it, what both may be used as
   abbrev ASuffix : Token → List Token → Suffix Tree → List Token → Type 0
   ASuffix before xs s ys = (last : Token) × DerivesSuffix free s before last xs ys × ((span_of_suffix s).end ≡ last.span.end) × Within (before ∷ xs) (last ∷ ys)
       × ((r : Tree) (ss : List (Suffix Tree)) (all : List Token) → DerivesOperand free r ss before all xs → Uses (ending_of_suffix s) free (posted r (ss ++ s ∷ [])) all ys)
@@ -129,7 +129,7 @@ module _ (nested : Form → Bool → Parser Tree) (ih : Sound nested) (turns : �
   call-holds : (before : Token) (joint : Dot) (d : Token) (ds : List Token) → IsRow DOTS (shape_of d.kind) joint → Holds (call_suffix nested turns free joint (d ∷ ds)) (ASuffix before (d ∷ ds))
   unfolding call_suffix
   call-holds before joint d ds row = naming shape.Identifier (λ xs. ASuffix before (d ∷ xs)) _ ds (λ n ns is. step (given-holds nested ih turns free n ns) (λ given ps g.
-      step (block-behind-holds nested ih turns free given.0 g.0 ps g.3) (λ b ys h. answered (ASuffix before (d ∷ n ∷ ns)) _ ys (call-made before joint d n ns ps row is given.0 given.1 b ys g h))))
+      step (block-after-holds nested ih turns free given.0 g.0 ps g.3) (λ b ys h. answered (ASuffix before (d ∷ n ∷ ns)) _ ys (call-made before joint d n ns ps row is given.0 given.1 b ys g h))))
 
   constant-holds : (before : Token) (c : Token) (cs : List Token) → Is shape.Scope c → Holds (constant_suffix nested turns free (c ∷ cs)) (ASuffix before (c ∷ cs))
   unfolding constant_suffix

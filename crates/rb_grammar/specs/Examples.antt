@@ -43,7 +43,7 @@ POWER_TREE = tree.Body
     (tree.Unary unary.Minus (tree.Binary binary.Power (from_to 3 5) (digit (codes "2") 1) (digit (codes "2") 6) (from_to 1 7)) (from_to 0 7) ∷ [])
     (from_to 0 7)
 
--- `return if x`: the jump has no value, and a modifier behind it
+-- `return if x`: the jump has no value, and a modifier after it
 abbrev pub JUMP : List Token
 JUMP = token kind.Return 0 6 ∷ token kind.If 7 9 ∷ token (kind.Identifier (codes "x")) 10 11 ∷ []
 
@@ -126,6 +126,6 @@ LateStandsNot = ¬ StandsAt SUM LATE_TREE
 abbrev pub LateArgumentStandsNot : Type 0
 LateArgumentStandsNot = ¬ StandsAt CALL (call_tree (tree.Whole None (codes "1") (from_to 4 7)))
 
--- nor with one that begins where the bracket behind it does
+-- nor with one that begins where the bracket after it does
 abbrev pub ReversedArgumentStandsNot : Type 0
 ReversedArgumentStandsNot = ¬ StandsAt CALL (call_tree (tree.Whole None (codes "1") (from_to 5 5)))

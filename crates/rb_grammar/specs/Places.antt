@@ -1,4 +1,4 @@
--- Where the nodes of a tree stand: each place that they carry begins where a token begins, and ends where that token or one behind it ends.
+-- Where the nodes of a tree stand: each place that they carry begins where a token begins, and ends where that token or one after it ends.
 use Rattle.std.specs.Prelude.{◌≡◌, ◌↔◌, ◌⊎◌, List, [], ◌∷◌, Option, Some, None}
 use Rattle.srb_terms.specs.declared.span.Span.{Span}
 use Rattle.rb_tree.specs.declared.token.Token.{Token}
@@ -35,12 +35,12 @@ abbrev pub IfThere : {A : Type 0} → (A → Type 0) → Option A → Type 0
 IfThere P None = Unit {0}
 IfThere P (Some x) = P x
 
--- the first stands in the list, and the second there or behind it
+-- the first stands in the list, and the second there or after it
 abbrev pub AreInOrder : {A : Type 0} → List A → A → A → Type 0
 AreInOrder [] a b = ⊥
 AreInOrder (x ∷ xs) a b = ((a ≡ x) × IsOneOf (x ∷ xs) b) ⊎ AreInOrder xs a b
 
--- the place begins where one of the tokens begins, and ends where that token or one behind it ends
+-- the place begins where one of the tokens begins, and ends where that token or one after it ends
 pub record IsPlaced (tokens : List Token) (span : Span) : Type 0 where
   pub first : Token
   pub last : Token

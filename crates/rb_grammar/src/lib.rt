@@ -27,7 +27,7 @@ pub fn programs_derive()
     ensures { ProgramsDerive }
 {}
 
-/// Each place in the tree of a program begins where one of its tokens begins, and ends where that token or one behind it ends. A
+/// Each place in the tree of a program begins where one of its tokens begins, and ends where that token or one after it ends. A
 /// body without statements alone stands elsewhere: from 0 to 0. Whether a tree stands so is told by its node and the trees in it.
 pub fn trees_stand_at_tokens()
     ensures tokens { TreesStandAtTokens }

@@ -15,7 +15,7 @@ use Rattle.rb_tree.specs.declared.token.Shape.{Shape}
 use Rattle.rb_tree.specs.declared.token.Shape.TheVariants as shape
 use Rattle.rb_expr.specs.declared.form.Form.{Form}
 use Rattle.rb_expr.specs.Reading.{Parser, sees, after, words_of}
-use Rattle.rb_expr.specs.Branches.{then_word, do_word, otherwise, elsif_arm, elsif_arms_from, elsif_arms, arms_of, branch, repeated, subject, patterns_from, patterns, when_arm, when_arms_from, when_arms, choice, rescues_all, rescue_variable, raised, rescue_clause, rescues_from, rescues, otherwise_behind, ensure, guarded, guards}
+use Rattle.rb_expr.specs.Branches.{then_word, do_word, otherwise, elsif_arm, elsif_arms_from, elsif_arms, arms_of, branch, repeated, subject, patterns_from, patterns, when_arm, when_arms_from, when_arms, choice, rescues_all, rescue_variable, raised, rescue_clause, rescues_from, rescues, otherwise_after, ensure, guarded, guards}
 use Rattle.rb_rules.specs.Tokens.{Is, IsAny, StartsWith}
 use Rattle.rb_rules.specs.Forms.{Inside}
 use Rattle.rb_rules.specs.Grammar.{Gap, Then, Parted, RescueVariable, DerivesBody, DerivesSimple, DerivesArms, DerivesElse, DerivesSubject, DerivesWhens, DerivesPatterns, DerivesGuarded, DerivesRescues, DerivesRaised, DerivesEnsure}
@@ -26,7 +26,7 @@ use Rattle.rb_rules.specs.Grammar.DerivesElse.{NoElse, SomeElse}
 use Rattle.rb_rules.specs.Grammar.DerivesSubject.{NoSubject, SomeSubject}
 use Rattle.rb_rules.specs.Grammar.DerivesWhens.{NoWhen, MoreWhens}
 use Rattle.rb_rules.specs.Grammar.DerivesPatterns.{LastPattern, MorePatterns}
-use Rattle.rb_rules.specs.Grammar.Parted.{BehindNothing, BehindSeparator}
+use Rattle.rb_rules.specs.Grammar.Parted.{AfterNothing, AfterSeparator}
 use Rattle.rb_rules.specs.Grammar.RescueVariable.{NoVariable, Bound}
 use Rattle.rb_rules.specs.Grammar.DerivesBody.{NoStatement, Statements}
 use Rattle.rb_rules.specs.Grammar.DerivesGuarded.{Unrescued, Rescued}
@@ -71,7 +71,7 @@ then-before free t xs ys (NoStatement _ _ _ _ (Wide s us _ is g)) e = other shap
 then-before free t xs ys (Statements _ _ s ss _ ps qs rs _ (Closed _) d more h) e = unseen shape.Then SIMPLE refl ps (statement-begins free s ps qs d)
 then-before free t xs ys (Statements _ _ s ss _ ps qs rs _ (Wide u us _ is g) d more h) e = other shape.Then shape.Separator u us is refl
 
--- ---- what stands behind bodies
+-- ---- what stands after bodies
 
 else-ends : (free : Bool) (o : Option Tree) (xs : List Token) (e : Token) (ys : List Token) → DerivesElse free o xs (e ∷ ys) → Is shape.End e → Ends BODY_ENDS free xs
 unfolding same_shape
@@ -107,7 +107,7 @@ unfolding same_shape
 otherwise-ends free o xs ys (NoElse _ _) ends = ends
 otherwise-ends free o xs ys (SomeElse _ k b us _ is d) ends = ends-by BODY_ENDS shape.Else refl refl free k us is
 
--- ---- what stands behind the word `rescue`
+-- ---- what stands after the word `rescue`
 
 -- the variable, or `then` or a separator
 RAISED_ENDS : List Shape
@@ -159,8 +159,8 @@ patterns-begin free given xs ys (MorePatterns _ c t more _ ps _ d is e) = term-b
 
 parted-no-then : (before : Tree) (xs : List Token) (k : Token) (ps : List Token) → Parted before xs (k ∷ ps) → Is shape.Rescue k → sees shape.Then xs ≡ false
 unfolding same_shape
-parted-no-then before xs k ps (BehindNothing _) is = other shape.Then shape.Rescue k ps is refl
-parted-no-then before xs k ps (BehindSeparator _ t _ sep) is = other shape.Then shape.Separator t (k ∷ ps) sep refl
+parted-no-then before xs k ps (AfterNothing _) is = other shape.Then shape.Rescue k ps is refl
+parted-no-then before xs k ps (AfterSeparator _ t _ sep) is = other shape.Then shape.Separator t (k ∷ ps) sep refl
 
 -- after a body no `then` stands, where clauses or none follow
 clauses-no-then : (free : Bool) (before : Tree) (rs : List (Rescue Tree)) (xs ys : List Token) → DerivesRescues free before rs xs ys → Ends BODY_ENDS free ys → sees shape.Then xs ≡ false
@@ -304,7 +304,7 @@ module _ (nested : Form → Bool → Parser Tree) (turns : ℕ) (ih : Complete t
       let r = ih.rescued free b xs ps us k fits d p is in
       record { rest = k ∷ us; reads = r.0; within = r.1; clauses = (k, us, qs, rs, vs, ws, refl, is, dr, dv, th, db, m) }
 
-  -- a clause, where those behind it are read
+  -- a clause, where those after it are read
   clause-read : (free : Bool) (n : ℕ) (c : Rescue Tree) (more : List (Rescue Tree)) (k : Token) (us ps qs rs vs ys : List Token) (found : List (Rescue Tree)) → Is shape.Rescue k → DerivesRaised free c.patterns us ps → RescueVariable c.variable ps qs → Then qs rs →
       DerivesBody Inside free c.body rs vs → DerivesRescues free c.body more vs ys → Ends BODY_ENDS free ys → length (k ∷ us) < suc n → length (k ∷ us) < turns →
       ((zs : List Token) → At free more zs ys → length zs < n → length zs < turns → ReadsSome (rescues_from nested turns free n (found ++ c ∷ [])) ((found ++ c ∷ []) ++ more) zs ys) →
@@ -335,7 +335,7 @@ module _ (nested : Form → Bool → Parser Tree) (turns : ℕ) (ih : Complete t
       (λ zs at less fits. clauses-read free n more zs ys at ends (found ++ c ∷ []) less fits))
 
   pub guarded-read : (free : Bool) (g : Guarded Tree) (xs : List Token) (z : Token) (ys : List Token) → DerivesGuarded free g xs (z ∷ ys) → Is shape.End z → suc (length xs) < turns → ReadsSome (guarded nested turns free) g xs (z ∷ ys)
-  unfolding guarded rescues otherwise_behind
+  unfolding guarded rescues otherwise_after
   guarded-read free g xs z ys (Unrescued _ b e _ ps _ d de) is fits =
       let ends = ensure-ends free e ps z ys de is in
       let r = ih.body free b xs ps fits d ends in
@@ -374,7 +374,7 @@ module _ (nested : Form → Bool → Parser Tree) (turns : ℕ) (ih : Complete t
       let l = ih.body free body qs rs (let h : suc (length qs) < turns = omega arith in h) b ends in
       (on _ (expects shape.When k xs is) (on _ r.0 (on _ w.1 (on _ l.0 refl))), past-token k (past-within (past-more p l.1)))
 
-  -- behind an arm others follow, or none
+  -- after an arm others follow, or none
   Followed : List (When Tree) → List Token → List Token → Type 0
   Followed more rs ys = ((more ≡ []) × (rs ≡ ys)) ⊎ (IsSome more × (sees shape.When rs ≡ true))
 

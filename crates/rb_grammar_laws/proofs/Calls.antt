@@ -16,7 +16,7 @@ use Rattle.rb_expr.specs.Calls.{keyword, passed_block, positional, argument_by, 
 use Rattle.rb_rules.specs.Tokens.{Is, StartsWith, IsIdentifier}
 use Rattle.rb_rules.specs.Spans.{last_of}
 use Rattle.rb_rules.specs.Forms.{Inside, AreOrdered, HasNoBlock, LeavesBlock, AreDistinct, names_of}
-use Rattle.rb_rules.specs.Grammar.{Gap, named, BarNames, Bars, DerivesBody, DerivesEnd, DerivesArgument, DerivesArguments, DerivesBrackets, DerivesBlock, DerivesBlockBehind, DerivesDo, GapIn}
+use Rattle.rb_rules.specs.Grammar.{Gap, named, BarNames, Bars, DerivesBody, DerivesEnd, DerivesArgument, DerivesArguments, DerivesBrackets, DerivesBlock, DerivesBlockAfter, DerivesDo, GapIn}
 use Rattle.rb_rules.specs.Grammar.GapIn.{Tight, Loose}
 use Rattle.rb_rules.specs.Grammar.BarNames.{LastBar, MoreBars}
 use Rattle.rb_rules.specs.Grammar.Bars.{NoBars, SomeBars}
@@ -24,7 +24,7 @@ use Rattle.rb_rules.specs.Grammar.DerivesArgument.{ByPlace, ByName, AsBlock}
 use Rattle.rb_rules.specs.Grammar.DerivesArguments.{LastArgument, MoreArguments}
 use Rattle.rb_rules.specs.Grammar.DerivesBrackets.{NoBrackets, EmptyBrackets, Brackets}
 use Rattle.rb_rules.specs.Grammar.DerivesBlock.{Braces, DoEnd}
-use Rattle.rb_rules.specs.Grammar.DerivesBlockBehind.{NoBlock, SomeBlock}
+use Rattle.rb_rules.specs.Grammar.DerivesBlockAfter.{NoBlock, SomeBlock}
 use Rattle.rb_rules.specs.Grammar.DerivesDo.{NoDo, SomeDo}
 use Rattle.rb_grammar.proofs.Steps.{shown, Within, within-self, within-token, within-more}
 use Rattle.rb_grammar.proofs.Lists.{Allowed, Ordered, noted-new}
@@ -262,17 +262,17 @@ module _ (nested : Form → Bool → Parser Tree) (turns : ℕ) (ih : Complete t
   block-ends free b last xs ys (Braces _ o c more body us ps _ is d h is2) = refl
   block-ends free b last xs ys (DoEnd o c more body us ps _ is d h is2) = refl
 
-  pub behind-read : (free : Bool) (given : Option (List (Argument Tree))) (b : Option (Block Tree)) (middle last : Token) (xs ys : List Token) → DerivesBlockBehind free b middle last xs ys → (b ≡ None ⊎ LeavesBlock given) → Ends PRIMARY_ENDS free ys → length xs < turns →
+  pub after-read : (free : Bool) (given : Option (List (Argument Tree))) (b : Option (Block Tree)) (middle last : Token) (xs ys : List Token) → DerivesBlockAfter free b middle last xs ys → (b ≡ None ⊎ LeavesBlock given) → Ends PRIMARY_ENDS free ys → length xs < turns →
       (optional_block nested turns free given xs ≡ Ok (b, ys)) × Within (middle ∷ xs) (last ∷ ys) × ((end : ℕ) → end ≡ middle.span.end → end_with b end ≡ last.span.end)
   unfolding any_block optional_do same_shape
-  behind-read free given b middle last xs ys (NoBlock _ _ _) leaves ends fits =
+  after-read free given b middle last xs ys (NoBlock _ _ _) leaves ends fits =
       (none-read free given ys (passed _ _ (ends-unseen shape.OpenBrace PRIMARY_ENDS refl free ys ends) (passed _ _ (no-do PRIMARY_ENDS free ys ends) refl)), within-self _, λ end e. e)
-  behind-read free given b middle last xs ys (SomeBlock _ _ _ some _ _ d) (inl e) ends fits = absurd (cc)
-  behind-read free given b middle last xs ys (SomeBlock _ _ _ some _ _ d) (inr leaves) ends fits =
+  after-read free given b middle last xs ys (SomeBlock _ _ _ some _ _ d) (inl e) ends fits = absurd (cc)
+  after-read free given b middle last xs ys (SomeBlock _ _ _ some _ _ d) (inr leaves) ends fits =
       let r = any-read free some last xs ys d fits in
       (some-read free given some xs ys leaves r.0, within-token middle (past-within r.1), λ end e. block-ends free some last xs ys d)
 
-  -- the `do` behind a command
+  -- the `do` after a command
   do-made : (free : Bool) (b : Block Tree) (last : Token) (xs ys : List Token) → DerivesBlock free b last xs ys → sees shape.Do xs ≡ true → length xs < turns → (block nested turns true shape.Do shape.End xs ≡ Ok (b, ys)) × Past xs ys
   unfolding same_shape
   do-made free b last xs ys (Braces _ o c more body us ps _ is d h is2) e fits = let f = other shape.Do shape.OpenBrace o us is refl in absurd (cc)

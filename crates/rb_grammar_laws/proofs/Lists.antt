@@ -1,4 +1,4 @@
--- What stands between and behind the elements of lists is read, and the kinds of arguments are in order.
+-- What stands between and after the elements of lists is read, and the kinds of arguments are in order.
 use Rattle.std.proofs.Common.{◌≡◌, ◌≢◌, ℕ, Bool, true, false, ◌&&◌, ◌||◌, if◌then◌else◌, List, [], ◌∷◌, ◌++◌, Some, None, Ok, refl, sym, ap, ◌∙◌, bytes_eq}
 use Rattle.std.proofs.lemmas.Slice.Eq.{bytes_eq-Decides}
 use Rattle.rb_tree.specs.Tokens.{same_shape}
@@ -12,7 +12,7 @@ use Rattle.rb_tree.specs.declared.token.Shape.TheVariants as shape
 use Rattle.rb_expr.specs.declared.lists.Order.{Order}
 use Rattle.rb_expr.specs.declared.lists.Order.TheVariants as order
 use Rattle.rb_expr.specs.Reading.{sees, and_then, expect}
-use Rattle.rb_expr.specs.Lists.{order_of, is_keyword, is_block, is_some_block, passes_block, takes_comma, closed, behind_comma, behind_element, behind_last, behind_argument, is_among}
+use Rattle.rb_expr.specs.Lists.{order_of, is_keyword, is_block, is_some_block, passes_block, takes_comma, closed, after_comma, after_element, after_last, after_argument, is_among}
 use Rattle.rb_rules.specs.Tokens.{Is}
 use Rattle.rb_rules.specs.Spans.{last_of}
 use Rattle.rb_rules.specs.Forms.{HasNoBlock, IsNot, names_of}
@@ -25,7 +25,7 @@ use Rattle.rb_grammar.proofs.Lists as sound
 use Rattle.rb_grammar_laws.specs.Ends.{Ends, TERM_ENDS}
 use Rattle.rb_grammar_laws.proofs.Steps.{on, taken, passed, is_in, expects, other, ends-by, skipped, gap-within}
 
--- ---- behind an element
+-- ---- after an element
 
 -- a closing bracket, which no separator and no comma is
 pub record IsCloser (closer : Shape) : Type 0 where
@@ -73,8 +73,8 @@ list-within true xs c ys (NoComma _ _ g) = gap-within xs (c ∷ ys) g
 list-within true xs c ys (LastComma m ps _ is g) = within-token m (gap-within ps (c ∷ ys) g)
 
 -- the end of a list, where its last element is no block
-pub element-closed : (closer : Shape) → IsCloser closer → (comma : Bool) → takes_comma closer ≡ comma → (xs : List Token) (c : Token) (ys : List Token) → sound.Ends comma xs (c ∷ ys) → Is closer c → behind_element closer xs ≡ Ok (Some c.span, ys)
-unfolding behind_element behind_comma
+pub element-closed : (closer : Shape) → IsCloser closer → (comma : Bool) → takes_comma closer ≡ comma → (xs : List Token) (c : Token) (ys : List Token) → sound.Ends comma xs (c ∷ ys) → Is closer c → after_element closer xs ≡ Ok (Some c.span, ys)
+unfolding after_element after_comma
 element-closed closer k false e xs c ys g is = passed _ _ (gap-no-comma closer k xs c ys g is) (closed-read closer k xs c ys g is)
 element-closed closer k true e xs c ys (NoComma _ _ g) is = passed _ _ (gap-no-comma closer k xs c ys g is) (closed-read closer k xs c ys g is)
 element-closed closer k true e xs c ys (LastComma m ps _ is2 g) is =
@@ -82,14 +82,14 @@ element-closed closer k true e xs c ys (LastComma m ps _ is2 g) is =
     ∙ taken _ _ (ap (λ b. b && sees closer (c ∷ ys)) e ∙ shown closer c ys is) (closed-read closer k (c ∷ ys) c ys (Closed _) is))
 
 -- the end of a list whose last element is a block
-last-closed : (closer : Shape) → IsCloser closer → (comma : Bool) → takes_comma closer ≡ comma → (xs : List Token) (c : Token) (ys : List Token) → sound.Ends comma xs (c ∷ ys) → Is closer c → behind_last closer xs ≡ Ok (Some c.span, ys)
-unfolding behind_last
+last-closed : (closer : Shape) → IsCloser closer → (comma : Bool) → takes_comma closer ≡ comma → (xs : List Token) (c : Token) (ys : List Token) → sound.Ends comma xs (c ∷ ys) → Is closer c → after_last closer xs ≡ Ok (Some c.span, ys)
+unfolding after_last
 last-closed closer k false e xs c ys g is = passed _ _ (ap (λ b. b && sees shape.Comma xs) e) (closed-read closer k xs c ys g is)
 last-closed closer k true e xs c ys (NoComma _ _ g) is = passed _ _ (ap (λ b. b && sees shape.Comma xs) e ∙ gap-no-comma closer k xs c ys g is) (closed-read closer k xs c ys g is)
 last-closed closer k true e xs c ys (LastComma m ps _ is2 g) is = taken _ _ (ap (λ b. b && sees shape.Comma (m ∷ ps)) e ∙ shown shape.Comma m ps is2) (closed-read closer k ps c ys g is)
 
-pub argument-closed : (closer : Shape) → IsCloser closer → (comma : Bool) → takes_comma closer ≡ comma → (given : Order) (xs : List Token) (c : Token) (ys : List Token) → sound.Ends comma xs (c ∷ ys) → Is closer c → behind_argument closer given xs ≡ Ok (Some c.span, ys)
-unfolding behind_argument
+pub argument-closed : (closer : Shape) → IsCloser closer → (comma : Bool) → takes_comma closer ≡ comma → (given : Order) (xs : List Token) (c : Token) (ys : List Token) → sound.Ends comma xs (c ∷ ys) → Is closer c → after_argument closer given xs ≡ Ok (Some c.span, ys)
+unfolding after_argument
 argument-closed closer k comma e order.Block xs c ys d is = last-closed closer k comma e xs c ys d is
 argument-closed closer k comma e order.Positional xs c ys d is = element-closed closer k comma e xs c ys d is
 argument-closed closer k comma e order.Keyword xs c ys d is = element-closed closer k comma e xs c ys d is
@@ -98,16 +98,16 @@ and-false : (a b : Bool) → b ≡ false → (a && b) ≡ false
 and-false true b e = e
 and-false false b e = refl
 
--- a comma, behind which another element follows
-pub element-more : (closer : Shape) (m : Token) (ps qs : List Token) → Is shape.Comma m → Gap ps qs → sees shape.Separator qs ≡ false → sees closer qs ≡ false → behind_element closer (m ∷ ps) ≡ Ok (None, qs)
-unfolding behind_element behind_comma
+-- a comma, after which another element follows
+pub element-more : (closer : Shape) (m : Token) (ps qs : List Token) → Is shape.Comma m → Gap ps qs → sees shape.Separator qs ≡ false → sees closer qs ≡ false → after_element closer (m ∷ ps) ≡ Ok (None, qs)
+unfolding after_element after_comma
 element-more closer m ps qs is g s e =
     taken _ _ (shown shape.Comma m ps is) (ap (λ zs. if takes_comma closer && sees closer zs then closed closer zs else Ok (None, zs)) (skipped ps qs g s)
     ∙ passed _ _ (and-false (takes_comma closer) _ e) refl)
 
-pub argument-more : (closer : Shape) (given : Order) → is_block given ≡ false → (m : Token) (ps qs : List Token) → Is shape.Comma m → Gap ps qs → sees shape.Separator qs ≡ false → sees closer qs ≡ false → behind_argument closer given (m ∷ ps) ≡ Ok (None, qs)
-unfolding behind_argument
-argument-more closer given e m ps qs is g s f = ap (λ b. (if b then behind_last closer else behind_element closer) (m ∷ ps)) e ∙ element-more closer m ps qs is g s f
+pub argument-more : (closer : Shape) (given : Order) → is_block given ≡ false → (m : Token) (ps qs : List Token) → Is shape.Comma m → Gap ps qs → sees shape.Separator qs ≡ false → sees closer qs ≡ false → after_argument closer given (m ∷ ps) ≡ Ok (None, qs)
+unfolding after_argument
+argument-more closer given e m ps qs is g s f = ap (λ b. (if b then after_last closer else after_element closer) (m ∷ ps)) e ∙ element-more closer m ps qs is g s f
 
 -- ---- orders
 
@@ -122,7 +122,7 @@ abbrev pub IsSome : {A : Type 0} → List A → Type 0
 IsSome [] = ⊥
 IsSome (x ∷ xs) = Unit {0}
 
--- an argument behind which others stand is no block
+-- an argument after which others stand is no block
 pub first-no-block : (keywords : Bool) (a : Argument Tree) (more : List (Argument Tree)) → IsSome more → Ordered keywords (a ∷ more) → is_block (order_of a) ≡ false
 first-no-block keywords a [] some o = absurd some
 first-no-block keywords (argument.Positional v) (b ∷ more) some o = refl

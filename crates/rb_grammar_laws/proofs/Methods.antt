@@ -100,17 +100,17 @@ body-links zero zs ys l less = absurd (let h : ⊥ = omega arith in h)
 body-links (suc d) zs ys (inl e) less = ap (λ us. statements.body (parsed d) d true false us) e
 body-links (suc d) zs ys (inr h) less = ap (λ us. statements.body (parsed d) d true false us) h.2 ∙ ap (λ us. statements.statements (parsed d) d true false us) (taken _ _ (shown shape.Separator h.0 zs h.1) refl)
 
--- what stands behind the body
+-- what stands after the body
 abbrev rest-of : ℕ → Tree → Parser (Guarded Tree)
 rest-of d b = do
   clauses ← branches.rescues (parsed d) d true
-  other ← branches.otherwise_behind (parsed d) d true clauses
+  other ← branches.otherwise_after (parsed d) d true clauses
   last ← branches.ensure (parsed d) d true
   pure (record { body = b; rescues = clauses; otherwise = other; ensure = last })
 
-behind-links : (d : ℕ) (zs ys : List Token) → Links zs ys → length zs < d → guarded d ys ≡ guarded d zs
+after-links : (d : ℕ) (zs ys : List Token) → Links zs ys → length zs < d → guarded d ys ≡ guarded d zs
 unfolding guarded branches.guarded
-behind-links d zs ys l less = ap (λ o. and_then o (rest-of d)) (body-links d zs ys l less)
+after-links d zs ys l less = ap (λ o. and_then o (rest-of d)) (body-links d zs ys l less)
 
 method-guarded : (d : ℕ) (g : Guarded Tree) (zs : List Token) (e : Token) (ys : List Token) → DerivesGuarded true g zs (e ∷ ys) → Is shape.End e → suc (length zs) < d → ReadsSome (guarded d) g zs (e ∷ ys)
 unfolding guarded
@@ -149,7 +149,7 @@ defined-read d visible front t xs ys (Def _ _ k e o name name_span parameters g 
     let h = head-read d visible start k o name name_span parameters us ps qs rs is ho hn hp ordered distinct less in
     let short = past-length h.3 in
     let r = method-guarded d g rs e ys hg ends (let h : suc (length rs) < d = omega arith in h) in (
-      on _ h.1 (on _ (behind-links d rs h.0 h.2 (let h : length rs < d = omega arith in h) ∙ r.0) (on _ (expects shape.End e ys ends) (ap (λ n. Ok (tree.Def visible o name name_span parameters g (record { start = n; end = e.span.end }), ys)) (front-same front k us)))),
+      on _ h.1 (on _ (after-links d rs h.0 h.2 (let h : length rs < d = omega arith in h) ∙ r.0) (on _ (expects shape.End e ys ends) (ap (λ n. Ok (tree.Def visible o name name_span parameters g (record { start = n; end = e.span.end }), ys)) (front-same front k us)))),
       past-token k (within-more (past-within h.3) (within-more r.1 (within-token e (within-self _)))),
     )
 

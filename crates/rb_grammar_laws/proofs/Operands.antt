@@ -20,9 +20,9 @@ use Rattle.rb_expr.specs.Shapes.{sees_number, is_signed}
 use Rattle.rb_expr.specs.Operands as spec
 use Rattle.rb_expr.specs.Operands.{number_by, number, touching, signed, unraised, negative, symbol, instance_variable, constant, top_constant, word_by, word, call_of, interpolation, pieces_from, pieces, text, called, yielding, super_call, elements_from, elements, array_from, array, label_pair, arrow_pair, a_pair, pairs_from, pairs, hash_from, hash, primary_by, primary}
 use Rattle.rb_rules.specs.Tokens.{Is, IsAny, StartsWith, Touches, NUMBERS, IsWhole, IsFloat, IsIdentifier}
-use Rattle.rb_rules.specs.Grammar.{IsRow, SIGNS, BRANCH_WORDS, LOOP_WORDS, DerivesEnd, DerivesBlock, DerivesBlockBehind, DerivesPieces, DerivesElements, DerivesPairs, DerivesPair, DerivesPrimary, DerivesBody, DerivesBrackets}
+use Rattle.rb_rules.specs.Grammar.{IsRow, SIGNS, BRANCH_WORDS, LOOP_WORDS, DerivesEnd, DerivesBlock, DerivesBlockAfter, DerivesPieces, DerivesElements, DerivesPairs, DerivesPair, DerivesPrimary, DerivesBody, DerivesBrackets}
 use Rattle.rb_rules.specs.Grammar.DerivesBlock.{Braces, DoEnd}
-use Rattle.rb_rules.specs.Grammar.DerivesBlockBehind.{NoBlock, SomeBlock}
+use Rattle.rb_rules.specs.Grammar.DerivesBlockAfter.{NoBlock, SomeBlock}
 use Rattle.rb_rules.specs.Grammar.DerivesPieces.{NoPiece, MorePieces}
 use Rattle.rb_rules.specs.Grammar.DerivesElements.{LastElement, MoreElements}
 use Rattle.rb_rules.specs.Grammar.DerivesPairs.{LastPair, MorePairs}
@@ -36,7 +36,7 @@ use Rattle.rb_grammar_laws.proofs.Steps.{on, taken, passed, by-row, expects, nam
 use Rattle.rb_grammar_laws.proofs.Begins.{term-begins}
 use Rattle.rb_grammar_laws.proofs.Complete.{Reads, Complete}
 use Rattle.rb_grammar_laws.proofs.Lists.{square, curly, list-ends, list-within, element-closed, element-more}
-use Rattle.rb_grammar_laws.proofs.Calls.{brackets-read, any-read, behind-read, block-ends}
+use Rattle.rb_grammar_laws.proofs.Calls.{brackets-read, any-read, after-read, block-ends}
 use Rattle.rb_expr.specs.Branches.{branch, repeated}
 use Rattle.rb_grammar_laws.proofs.Branches.{branch-read, repeated-read, choice-read, guards-read}
 use Rattle.rb_rules.specs.Grammar.DerivesBrackets.{NoBrackets}
@@ -129,10 +129,10 @@ module _ (nested : Form → Bool → Parser Tree) (turns : ℕ) (ih : Complete t
   block-no-paren free b last xs ys (Braces _ o c more body us ps _ is d h is2) = other shape.OpenParen shape.OpenBrace o us is refl
   block-no-paren free b last xs ys (DoEnd o c more body us ps _ is d h is2) = other shape.OpenParen shape.Do o us is refl
 
-  pub behind-no-paren : (free : Bool) (b : Option (Block Tree)) (middle last : Token) (xs ys : List Token) → DerivesBlockBehind free b middle last xs ys → Ends PRIMARY_ENDS free ys → sees shape.OpenParen xs ≡ false
+  pub after-no-paren : (free : Bool) (b : Option (Block Tree)) (middle last : Token) (xs ys : List Token) → DerivesBlockAfter free b middle last xs ys → Ends PRIMARY_ENDS free ys → sees shape.OpenParen xs ≡ false
   unfolding same_shape
-  behind-no-paren free b middle last xs ys (NoBlock _ _ _) ends = ends-unseen shape.OpenParen PRIMARY_ENDS refl free ys ends
-  behind-no-paren free b middle last xs ys (SomeBlock _ _ _ some _ _ d) ends = block-no-paren free some last xs ys d
+  after-no-paren free b middle last xs ys (NoBlock _ _ _) ends = ends-unseen shape.OpenParen PRIMARY_ENDS refl free ys ends
+  after-no-paren free b middle last xs ys (SomeBlock _ _ _ some _ _ d) ends = block-no-paren free some last xs ys d
 
   -- ---- arrays and hashes
 
@@ -207,25 +207,25 @@ module _ (nested : Form → Bool → Parser Tree) (turns : ℕ) (ih : Complete t
   unfolding called same_shape
   called-alone free t w ys is ends fits =
       let none = brackets-read nested turns ih free None t t ys ys (NoBrackets t ys) (ends-unseen shape.OpenParen PRIMARY_ENDS refl free ys ends) (let h : length ys < turns = omega arith in h) in
-      let b = behind-read nested turns ih free None None t t ys ys (NoBlock free t ys) (inl refl) ends (let h : length ys < turns = omega arith in h) in
+      let b = after-read nested turns ih free None None t t ys ys (NoBlock free t ys) (inl refl) ends (let h : length ys < turns = omega arith in h) in
       opened free shape.Identifier t ys _ (identifier t w is) (on _ (names shape.Identifier t ys w (identifier t w is) (ap words_of is)) (on _ none.0 (on _ b.0 refl)))
 
-  called-brackets : (free : Bool) (t middle last : Token) (w : List ℕ) (arguments : List (Argument Tree)) (b : Option (Block Tree)) (xs ps ys : List Token) → IsIdentifier t w → DerivesBrackets (Some arguments) t middle xs ps → DerivesBlockBehind free b middle last ps ys →
+  called-brackets : (free : Bool) (t middle last : Token) (w : List ℕ) (arguments : List (Argument Tree)) (b : Option (Block Tree)) (xs ps ys : List Token) → IsIdentifier t w → DerivesBrackets (Some arguments) t middle xs ps → DerivesBlockAfter free b middle last ps ys →
       (b ≡ None ⊎ HasNoBlock arguments) → Ends PRIMARY_ENDS free ys → length (t ∷ xs) < turns →
       (primary nested turns free (t ∷ xs) ≡ Ok (tree.Call w t.span (Some arguments) b (record { start = t.span.start; end = last.span.end }), ys)) × Within (t ∷ xs) (last ∷ ys)
   unfolding called
   called-brackets free t middle last w arguments b xs ps ys is d e leaves ends fits =
-      let r = brackets-read nested turns ih free (Some arguments) t middle xs ps d (behind-no-paren free b middle last ps ys e ends) (let h : length xs < turns = omega arith in h) in
+      let r = brackets-read nested turns ih free (Some arguments) t middle xs ps d (after-no-paren free b middle last ps ys e ends) (let h : length xs < turns = omega arith in h) in
       let short = within-length r.1 in
-      let l = behind-read nested turns ih free (Some arguments) b middle last ps ys e leaves ends (let h : length ps < turns = omega arith in h) in (
+      let l = after-read nested turns ih free (Some arguments) b middle last ps ys e leaves ends (let h : length ps < turns = omega arith in h) in (
         opened free shape.Identifier t xs _ (identifier t w is) (on _ (names shape.Identifier t xs w (identifier t w is) (ap words_of is)) (on _ r.0 (on _ l.0
             (ap (λ end. Ok (tree.Call w t.span (Some arguments) b (record { start = t.span.start; end = end }), ys)) (l.2 middle.span.end refl))))),
         within-more r.1 l.1,
       )
 
-  behind-some : (free : Bool) (b : Block Tree) (xs ys : List Token) → any_block nested turns free xs ≡ Ok (Some b, ys) → optional_block nested turns free None xs ≡ Ok (Some b, ys)
+  after-some : (free : Bool) (b : Block Tree) (xs ys : List Token) → any_block nested turns free xs ≡ Ok (Some b, ys) → optional_block nested turns free None xs ≡ Ok (Some b, ys)
   unfolding optional_block
-  behind-some free b xs ys e = e
+  after-some free b xs ys e = e
 
   called-block : (free : Bool) (t last : Token) (w : List ℕ) (b : Block Tree) (xs ys : List Token) → IsIdentifier t w → DerivesBlock free b last xs ys → length (t ∷ xs) < turns →
       (primary nested turns free (t ∷ xs) ≡ Ok (tree.Call w t.span None (Some b) (record { start = t.span.start; end = last.span.end }), ys)) × Within (t ∷ xs) (last ∷ ys)
@@ -233,7 +233,7 @@ module _ (nested : Form → Bool → Parser Tree) (turns : ℕ) (ih : Complete t
   called-block free t last w b xs ys is d fits =
       let none = brackets-read nested turns ih free None t t xs xs (NoBrackets t xs) (block-no-paren free b last xs ys d) (let h : length xs < turns = omega arith in h) in
       let r = any-read nested turns ih free b last xs ys d (let h : length xs < turns = omega arith in h) in (
-        opened free shape.Identifier t xs _ (identifier t w is) (on _ (names shape.Identifier t xs w (identifier t w is) (ap words_of is)) (on _ none.0 (on _ (behind-some free b xs ys r.0)
+        opened free shape.Identifier t xs _ (identifier t w is) (on _ (names shape.Identifier t xs w (identifier t w is) (ap words_of is)) (on _ none.0 (on _ (after-some free b xs ys r.0)
             (ap (λ end. Ok (tree.Call w t.span None (Some b) (record { start = t.span.start; end = end }), ys)) (block-ends nested turns ih free b last xs ys d))))),
         within-token t (past-within r.1),
       )

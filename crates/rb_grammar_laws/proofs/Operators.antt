@@ -17,7 +17,7 @@ use Rattle.rb_expr.specs.declared.form.Form.TheVariants as form
 use Rattle.rb_expr.specs.Reading.{Outcome, Parser, and_then, sees, peek, after, touches}
 use Rattle.rb_expr.specs.Shapes.{binary_of, level_of, ceiling, between, operator_between, sees_number, is_signed, is_sign, is_negation, prefix_by, prefix_of, has_prefix}
 use Rattle.rb_expr.specs.Operands.{post}
-use Rattle.rb_expr.specs.Operators.{unary_operation, binary_operation, prefixed_by, prefixed, powered, power, negated, climb_by, climb_from, climb, operation, alternatives, chosen, tern, tern_behind}
+use Rattle.rb_expr.specs.Operators.{unary_operation, binary_operation, prefixed_by, prefixed, powered, power, negated, climb_by, climb_from, climb, operation, alternatives, chosen, tern, tern_after}
 use Rattle.rb_expr.specs.Operators as spec
 use Rattle.rb_rules.specs.Tokens.{Is, IsAny, IsOneOf, Touches, NUMBERS, IsBeforeNumber, IsRaised}
 use Rattle.rb_rules.specs.Spans.{across}
@@ -154,9 +154,9 @@ and-right-false : (a b : Bool) → b ≡ false → (a && b) ≡ false
 and-right-false true b e = e
 and-right-false false b e = refl
 
-unraised-behind : (us : List Token) → ¬ IsRaised us → sees shape.Power (after us) ≡ false
-unraised-behind [] h = refl
-unraised-behind (n ∷ ns) h = unraised-seen ns h
+unraised-after : (us : List Token) → ¬ IsRaised us → sees shape.Power (after us) ≡ false
+unraised-after [] h = refl
+unraised-after (n ∷ ns) h = unraised-seen ns h
 
 raised-seen : (us : List Token) → IsRaised us → sees shape.Power (after us) ≡ true
 raised-seen [] h = absurd h
@@ -178,7 +178,7 @@ operand-front (t ∷ ts) (inr h) =
   where
     go : (h.0 ≡ sign.Plus ⊎ ¬ IsRaised ts) → (sees shape.Minus (t ∷ ts) && (not (is_sign (t ∷ ts)) || sees shape.Power (after ts))) ≡ false
     go (inl plus) = ap (λ b. b && (not (is_sign (t ∷ ts)) || sees shape.Power (after ts))) (by-row SIGNS (λ s how. how ≡ sign.Plus → same_shape s shape.Minus ≡ false) ((λ e. absurd (cc)), ((λ e. refl), tt)) _ _ h.1 plus)
-    go (inr flat) = and-right-false (sees shape.Minus (t ∷ ts)) _ (ap (λ b. not b || sees shape.Power (after ts)) (a-sign t ts h.2) ∙ unraised-behind ts flat)
+    go (inr flat) = and-right-false (sees shape.Minus (t ∷ ts)) _ (ap (λ b. not b || sees shape.Power (after ts)) (a-sign t ts h.2) ∙ unraised-after ts flat)
 
 prefix-front : (u : Token) (us : List Token) (operator : Unary) → IsRow PREFIXES (shape_of u.kind) operator → (operator ≡ unary.Plus → ¬ IsBeforeNumber u us) → (is_negation (u ∷ us) ≡ false) × (prefix_of (u ∷ us) ≡ Some operator)
 unfolding is_negation prefix_of same_shape
@@ -229,7 +229,7 @@ module _ (nested : Form → Bool → Parser Tree) (turns : ℕ) (ih : Complete t
       let r = post-read nested turns ih free p ss last xs ys d (ends-wider PREFIXED_ENDS OPERAND_ENDS refl free ys ends) fits in
       (ap (λ o. prefixed_by nested turns free o xs) f.1 ∙ r.0, r.1, f.0)
 
-  -- the tightest level: `-` in front, or `**` behind
+  -- the tightest level: `-` in front, or `**` after
   pub nine-read : (level : ℕ) (free : Bool) (t : Tree) (xs ys : List Token) → DerivesLevel level free t xs ys → level ≡ 9 → Ends OPERATION_ENDS free ys → length xs < turns → Reads (negated nested turns free) t xs ys
   unfolding negated power powered unary_operation binary_operation spec.across same_shape
   nine-read level free t xs ys (Tighter _ _ _ _ _ less d) nine ends fits = absurd (let h : ⊥ = omega arith in h)
@@ -364,7 +364,7 @@ module _ (nested : Form → Bool → Parser Tree) (turns : ℕ) (ih : Complete t
 
   -- ---- the first operand
 
-  -- an operand, and what stands behind it
+  -- an operand, and what stands after it
   pub record First (free : Bool) (xs : List Token) : Type 0 where
     pub first : Tree
     pub rest : List Token
@@ -401,8 +401,8 @@ module _ (nested : Form → Bool → Parser Tree) (turns : ℕ) (ih : Complete t
   negated-parts free xs rest first flat none e = passed _ _ flat (power-parts free xs rest first none e)
 
   -- a term is read as its first operand and the rest
-  pub tern-parts : (free : Bool) (xs rest : List Token) (first : Tree) → has_prefix xs ≡ false → post nested turns free xs ≡ Ok (first, rest) → tern nested turns free xs ≡ tern_behind nested turns free first rest
-  unfolding tern tern_behind operation
+  pub tern-parts : (free : Bool) (xs rest : List Token) (first : Tree) → has_prefix xs ≡ false → post nested turns free xs ≡ Ok (first, rest) → tern nested turns free xs ≡ tern_after nested turns free first rest
+  unfolding tern tern_after operation
   tern-parts free xs rest first none e =
       let f = no-prefixes xs none in
       ap (λ o. and_then (and_then o (climb nested turns free 1)) (chosen nested turns free)) (negated-parts free xs rest first f.0 f.1 e)

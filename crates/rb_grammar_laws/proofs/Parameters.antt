@@ -15,7 +15,7 @@ use Rattle.rb_expr.specs.Rules.{tern}
 use Rattle.rb_decl.specs.declared.parameter.Stage.{Stage}
 use Rattle.rb_decl.specs.declared.parameter.Stage.TheVariants as stage
 use Rattle.rb_decl.specs.Parameters as spec
-use Rattle.rb_decl.specs.Parameters.{stage_behind, is_among, fresh, noted, is_plain, is_first, is_last, plain, has_no_default, keyword, block, behind_comma, is_over, row_from, row, bracketed, bare, parameters_of}
+use Rattle.rb_decl.specs.Parameters.{stage_after, is_among, fresh, noted, is_plain, is_first, is_last, plain, has_no_default, keyword, block, after_comma, is_over, row_from, row, bracketed, bare, parameters_of}
 use Rattle.rb_rules.specs.Tokens.{Is, StartsWith}
 use Rattle.rb_rules.specs.Forms.{AreParameters, AreKinds, AreOptionalKinds, AreKeyKinds, EndsByBlockKind, kinds_of, AreDistinct, IsNot, names_of_parameters}
 use Rattle.rb_rules.specs.Grammar.{Gap, GapIn, DerivesParameter, DerivesParameterList, DerivesParameters, DerivesTerm}
@@ -70,7 +70,7 @@ ends-block : (more : List ParamKind) → EndsByBlockKind (param_kind.Block ∷ m
 ends-block [] o = tt
 ends-block (k ∷ more) o = o
 
-more-in-order : (at : Stage) (k : ParamKind) (more : List ParamKind) → InOrder at (k ∷ more) → InOrder (stage_behind k) more
+more-in-order : (at : Stage) (k : ParamKind) (more : List ParamKind) → InOrder at (k ∷ more) → InOrder (stage_after k) more
 more-in-order stage.Required param_kind.Required more o = o
 more-in-order stage.Optional param_kind.Required more o = absurd o
 more-in-order stage.Keyword param_kind.Required more o = absurd o
@@ -91,7 +91,7 @@ more-in-order stage.Optional param_kind.Rest more o = absurd o
 more-in-order stage.Keyword param_kind.Rest more o = absurd o
 more-in-order stage.Block k more o = absurd o
 
-not-last : (k : ParamKind) (more : List (Parameter Tree)) → IsSome more → InOrder (stage_behind k) (kinds_of more) → is_last (stage_behind k) ≡ false
+not-last : (k : ParamKind) (more : List (Parameter Tree)) → IsSome more → InOrder (stage_after k) (kinds_of more) → is_last (stage_after k) ≡ false
 not-last k [] some o = absurd some
 not-last param_kind.Required (q ∷ more) some o = refl
 not-last param_kind.Optional (q ∷ more) some o = refl
@@ -115,7 +115,7 @@ all-fresh (p ∷ more) = (refl, all-fresh more)
 
 -- ---- one parameter
 
--- what stands behind a parameter
+-- what stands after a parameter
 abbrev PARAMETER_ENDS : List Shape
 PARAMETER_ENDS = shape.Comma ∷ shape.CloseParen ∷ shape.Separator ∷ []
 
@@ -191,7 +191,7 @@ parameter-begins p xs ys (RequiredKeyword l w _ is) = inr (inl (label l w is))
 parameter-begins p xs ys (OptionalKeyword l w v us _ is h) = inr (inl (label l w is))
 parameter-begins p xs ys (BlockParameter a t w _ is is2) = inr (inr (inl is))
 
--- the closing bracket behind a row
+-- the closing bracket after a row
 abbrev closing-of : List (Parameter Tree) → List Token → Outcome (List (Parameter Tree))
 closing-of ps ws = and_then (expect shape.CloseParen ws) (λ place rest. Ok (ps, rest))
 
@@ -203,19 +203,19 @@ list-some : (bracketed : Bool) (ps : List (Parameter Tree)) (xs ys : List Token)
 list-some bracketed ps xs ys (LastParameter _ p _ _ d) = tt
 list-some bracketed ps xs ys (MoreParameters _ c p more _ qs us _ d is g e) = tt
 
--- behind a comma
-comma-behind : (bracketed : Bool) (c : Token) (qs us : List Token) → GapIn bracketed qs us → sees shape.Separator us ≡ false → (behind_comma bracketed (c ∷ qs) ≡ us) × Within qs us
-comma-behind bracketed c qs us (Tight _) none = (refl, within-self _)
-comma-behind bracketed c qs us (Loose _ _ g) none = (skipped qs us g none, gap-within qs us g)
+-- after a comma
+comma-after : (bracketed : Bool) (c : Token) (qs us : List Token) → GapIn bracketed qs us → sees shape.Separator us ≡ false → (after_comma bracketed (c ∷ qs) ≡ us) × Within qs us
+comma-after bracketed c qs us (Tight _) none = (refl, within-self _)
+comma-after bracketed c qs us (Loose _ _ g) none = (skipped qs us g none, gap-within qs us g)
 
-over-by : (p : Parameter Tree) (xs : List Token) → sees shape.Comma xs ≡ false → is_over (stage_behind p.kind) xs ≡ true
-over-by p xs e = or-right (is_last (stage_behind p.kind)) _ (ap not e)
+over-by : (p : Parameter Tree) (xs : List Token) → sees shape.Comma xs ≡ false → is_over (stage_after p.kind) xs ≡ true
+over-by p xs e = or-right (is_last (stage_after p.kind)) _ (ap not e)
   where
     or-right : (a b : Bool) → b ≡ true → (a || b) ≡ true
     or-right true b e = refl
     or-right false b e = e
 
-goes-on : (p : Parameter Tree) (c : Token) (qs : List Token) → is_last (stage_behind p.kind) ≡ false → Is shape.Comma c → is_over (stage_behind p.kind) (c ∷ qs) ≡ false
+goes-on : (p : Parameter Tree) (c : Token) (qs : List Token) → is_last (stage_after p.kind) ≡ false → Is shape.Comma c → is_over (stage_after p.kind) (c ∷ qs) ≡ false
 goes-on p c qs e is = ap (λ b. b || not (sees shape.Comma (c ∷ qs))) e ∙ ap not (shown shape.Comma c qs is)
 
 row-read : (d : ℕ) (bracketed : Bool) (ps : List (Parameter Tree)) (xs ys : List Token) → DerivesParameterList bracketed ps xs ys → StartsWith PARAMETER_ENDS ys → sees shape.Comma ys ≡ false → (n : ℕ) (at : Stage) (old : List (List ℕ)) (found : List (Parameter Tree)) →
@@ -230,13 +230,13 @@ row-read d bracketed ps xs ys (MoreParameters _ c p more _ qs us _ h is g e) end
     let begin = list-begins bracketed more us ys e in
     let o2 = more-in-order at p.kind (kinds_of more) o in
     let r = parameter-read d at old p xs (c ∷ qs) h (first-fits at p.kind (kinds_of more) o) f.0 (inl is) fits in
-    let b = comma-behind bracketed c qs us g (unseen shape.Separator (shape.Identifier ∷ shape.Label ∷ shape.Ampersand ∷ []) refl us begin) in
+    let b = comma-after bracketed c qs us g (unseen shape.Separator (shape.Identifier ∷ shape.Label ∷ shape.Ampersand ∷ []) refl us begin) in
     let p2 = past-more r.1 (within-token c b.1) in
     let short = past-length p2 in
     let names : noted old p.name ≡ old ++ p.name ∷ [] = noted-new old p.name f.0 in
-    let l = row-read d bracketed more us ys e ends comma n (stage_behind p.kind) (old ++ p.name ∷ []) (found ++ p ∷ []) o2 (still-fresh old p.name more f.1 distinct.0) distinct.1 (let k : length us < n = omega arith in k) (let k : length us < d = omega arith in k) in (
+    let l = row-read d bracketed more us ys e ends comma n (stage_after p.kind) (old ++ p.name ∷ []) (found ++ p ∷ []) o2 (still-fresh old p.name more f.1 distinct.0) distinct.1 (let k : length us < n = omega arith in k) (let k : length us < d = omega arith in k) in (
       on _ r.0 (passed _ _ (goes-on p c qs (not-last p.kind more some o2) is)
-          (ap (λ names. row_from d bracketed n (stage_behind p.kind) names (found ++ p ∷ []) (behind_comma bracketed (c ∷ qs))) names ∙ ap (λ zs. row_from d bracketed n (stage_behind p.kind) (old ++ p.name ∷ []) (found ++ p ∷ []) zs) b.0
+          (ap (λ names. row_from d bracketed n (stage_after p.kind) names (found ++ p ∷ []) (after_comma bracketed (c ∷ qs))) names ∙ ap (λ zs. row_from d bracketed n (stage_after p.kind) (old ++ p.name ∷ []) (found ++ p ∷ []) zs) b.0
           ∙ l.0 ∙ ap (λ found. Ok (found, ys)) (append_assoc found (p ∷ []) more))),
       past-more p2 (past-within l.1),
     )

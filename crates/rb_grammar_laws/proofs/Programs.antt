@@ -110,10 +110,10 @@ abbrev pub ReadsItems : Site → ℕ → Parser Tree → Type 0
 ReadsItems at most one = (t : Tree) (xs ys : List Token) → DerivesStatement at true t xs ys → Ends ITEM_ENDS true ys → length xs < most → Reads one t xs ys
 
 module _ (at : Site) (most : ℕ) (one : Parser Tree) (ih : ReadsItems at most one) where
-  abbrev Behind : ℕ → List Tree → Parser (List Tree)
-  Behind n found = λ rest. if sees shape.Separator rest then statements_from one n found (skip_separators rest) else Ok (found, rest)
+  abbrev After : ℕ → List Tree → Parser (List Tree)
+  After n found = λ rest. if sees shape.Separator rest then statements_from one n found (skip_separators rest) else Ok (found, rest)
 
-  more-read : (ss : List Tree) (qs rs ys : List Token) → DerivesMore at true ss qs rs → Gap rs ys → Ends (shape.End ∷ []) true ys → (n : ℕ) (found : List Tree) → length qs < n → length qs < most → ReadsSome (Behind n found) (found ++ ss) qs ys
+  more-read : (ss : List Tree) (qs rs ys : List Token) → DerivesMore at true ss qs rs → Gap rs ys → Ends (shape.End ∷ []) true ys → (n : ℕ) (found : List Tree) → length qs < n → length qs < most → ReadsSome (After n found) (found ++ ss) qs ys
   unfolding statements_from same_shape
   more-read ss qs rs ys d g end zero found less fits = absurd (let h : ⊥ = omega arith in h)
   more-read ss qs rs ys (NoMore _ _ _) (Closed _) end (suc n) found less fits =
@@ -156,10 +156,10 @@ module _ (at : Site) (most : ℕ) (one : Parser Tree) (ih : ReadsItems at most o
       let w = gap-within xs ys g in
       let short = within-length w in
       ([], ap (λ zs. statements_from one d [] zs) (skipped xs ys g (ends-unseen shape.Separator (shape.End ∷ []) refl true ys end)) ∙ none-read ys end d (let h : length ys < d = omega arith in h), refl, w)
-  body-read d t xs ys (Statements _ _ s ss _ ps qs rs _ g h more behind) end less fits =
+  body-read d t xs ys (Statements _ _ s ss _ ps qs rs _ g h more after) end less fits =
       let w = gap-within xs ps g in
       let short = within-length w in
-      let r = first-read s ss ps qs rs ys h more behind end d (let k : length ps < d = omega arith in k) (let k : length ps < most = omega arith in k) in
+      let r = first-read s ss ps qs rs ys h more after end d (let k : length ps < d = omega arith in k) (let k : length ps < most = omega arith in k) in
       (s ∷ ss, ap (λ zs. statements_from one d [] zs) (skipped xs ps g (unseen shape.Separator ITEMS refl ps (item-begins at true s ps qs h))) ∙ r.0, same-body (s ∷ ss), within-more w r.1)
 
 -- ---- classes and modules

@@ -18,13 +18,13 @@ use Rattle.rb_expr.specs.Reading.{Outcome, Parser, sees, peek, start_of, skip_se
 use Rattle.rb_expr.specs.Shapes.{begins_simple, begins_statement, begins_value, has_value, jump_of, modifier_of}
 use Rattle.rb_expr.specs.Operators as operators
 use Rattle.rb_expr.specs.Statements as spec
-use Rattle.rb_expr.specs.Statements.{value, jump, jump_value, simple_by, simple, modified, modifiers_by, modifiers_from, modifiers, may_modify, allowed, modifier_behind, ended, statement, body_from, body_start, statements}
+use Rattle.rb_expr.specs.Statements.{value, jump, jump_value, simple_by, simple, modified, modifiers_by, modifiers_from, modifiers, may_modify, allowed, modifier_after, ended, statement, body_from, body_start, statements}
 use Rattle.rb_rules.specs.Tokens.{Is, StartsWith}
 use Rattle.rb_rules.specs.Spans.{across, last_of}
 use Rattle.rb_rules.specs.Forms.{Site, Inside, MODIFIERS, MayModify}
 use Rattle.rb_rules.specs.Grammar.{Gap, IsRow, MODIFIER_WORDS, JUMP_WORDS, body_of, Parted, DerivesBody, DerivesMore, DerivesStatement, DerivesModified, DerivesSimple}
 use Rattle.rb_rules.specs.Grammar.Gap.{Closed, Wide}
-use Rattle.rb_rules.specs.Grammar.Parted.{BehindNothing, BehindSeparator}
+use Rattle.rb_rules.specs.Grammar.Parted.{AfterNothing, AfterSeparator}
 use Rattle.rb_rules.specs.Grammar.DerivesBody.{NoStatement, Statements}
 use Rattle.rb_rules.specs.Grammar.DerivesMore.{NoMore, Another}
 use Rattle.rb_rules.specs.Grammar.DerivesStatement.{Declared, Simply}
@@ -86,13 +86,13 @@ may modifier.Until s (inl e) = absurd (cc)
 may modifier.While s (inr e) = ap not (same-begin s ∙ e)
 may modifier.Until s (inr e) = ap not (same-begin s ∙ e)
 
-no-modifier-behind : (s : Tree) (free : Bool) (xs : List Token) → Ends STATEMENT_ENDS free xs → modifier_behind s (peek xs) ≡ None
-unfolding modifier_behind
-no-modifier-behind s free xs h = ap (allowed s) (no-modifier free xs h)
+no-modifier-after : (s : Tree) (free : Bool) (xs : List Token) → Ends STATEMENT_ENDS free xs → modifier_after s (peek xs) ≡ None
+unfolding modifier_after
+no-modifier-after s free xs h = ap (allowed s) (no-modifier free xs h)
 
-a-modifier-behind : (s : Tree) (m : Token) (ms : List Token) (word : Modifier) → IsRow MODIFIER_WORDS (shape_of m.kind) word → MayModify word s → modifier_behind s (peek (m ∷ ms)) ≡ Some word
-unfolding modifier_behind
-a-modifier-behind s m ms word row h = ap (allowed s) (a-modifier m ms word row) ∙ ap (λ b. if b then Some word else None) (may word s h)
+a-modifier-after : (s : Tree) (m : Token) (ms : List Token) (word : Modifier) → IsRow MODIFIER_WORDS (shape_of m.kind) word → MayModify word s → modifier_after s (peek (m ∷ ms)) ≡ Some word
+unfolding modifier_after
+a-modifier-after s m ms word row h = ap (allowed s) (a-modifier m ms word row) ∙ ap (λ b. if b then Some word else None) (may word s h)
 
 modified-ends : (free : Bool) (s t : Tree) (xs ys : List Token) → DerivesModified free s t xs ys → Ends STATEMENT_ENDS free ys → Ends SIMPLE_ENDS free xs
 unfolding same_shape
@@ -179,8 +179,8 @@ not-empty s ss e =
     absurd (cc)
 
 parted-by : (before : Tree) (ps : List Token) (k : Token) (qs : List Token) → Parted before ps (k ∷ qs) → (body_of [] ≡ before) ⊎ ((t : Token) × Is shape.Separator t × (ps ≡ t ∷ k ∷ qs))
-parted-by before ps k qs (BehindNothing _) = inl refl
-parted-by before ps k qs (BehindSeparator _ t _ is) = inr (t, is, refl)
+parted-by before ps k qs (AfterNothing _) = inl refl
+parted-by before ps k qs (AfterSeparator _ t _ is) = inr (t, is, refl)
 
 -- statements end before a separator, where a `rescue` follows
 over-parted : (free : Bool) (s : Tree) (ss : List Tree) (rs ps : List Token) (k : Token) (qs : List Token) → Gap rs ps → Parted (body_of (s ∷ ss)) ps (k ∷ qs) → Is shape.Rescue k → Over free rs (k ∷ qs)
@@ -201,12 +201,12 @@ module _ (nested : Form → Bool → Parser Tree) (turns : ℕ) (ih : Complete t
   modifiers-read : (free : Bool) (s t : Tree) (xs ys : List Token) → DerivesModified free s t xs ys → Ends STATEMENT_ENDS free ys → (n : ℕ) → length xs < n → length xs < turns → ReadsSome (modifiers_from nested turns free n s) t xs ys
   unfolding modifiers_from modified operators.across
   modifiers-read free s t xs ys d ends zero less fits = absurd (let h : ⊥ = omega arith in h)
-  modifiers-read free s t xs ys (Unmodified _ _ _) ends (suc n) less fits = (ap (λ o. modifiers_by nested turns free (modifiers_from nested turns free n) s o ys) (no-modifier-behind s free ys ends), within-self _)
+  modifiers-read free s t xs ys (Unmodified _ _ _) ends (suc n) less fits = (ap (λ o. modifiers_by nested turns free (modifiers_from nested turns free n) s o ys) (no-modifier-after s free ys ends), within-self _)
   modifiers-read free s t xs ys (Modified _ m word _ c _ us ps _ row allows d e) ends (suc n) less fits =
       let r = ih.simple free c us ps fits d (modified-ends free _ t ps ys e ends) in
       let short = past-length r.1 in
       let l = modifiers-read free (tree.Modified s word c (across (span_of s) (span_of c))) t ps ys e ends n (let h : length ps < n = omega arith in h) (let h : length ps < turns = omega arith in h) in
-      (ap (λ o. modifiers_by nested turns free (modifiers_from nested turns free n) s o (m ∷ us)) (a-modifier-behind s m us word row allows) ∙ on _ (on _ r.0 refl) l.0, within-token m (within-more (past-within r.1) l.1))
+      (ap (λ o. modifiers_by nested turns free (modifiers_from nested turns free n) s o (m ∷ us)) (a-modifier-after s m us word row allows) ∙ on _ (on _ r.0 refl) l.0, within-token m (within-more (past-within r.1) l.1))
 
   pub simply-read : (constants free : Bool) (s t : Tree) (xs ps ys : List Token) → DerivesSimple constants free s xs ps → DerivesModified free s t ps ys → Ends STATEMENT_ENDS free ys → length xs < turns → Reads (statement nested turns free constants) t xs ys
   unfolding statement modifiers
@@ -222,22 +222,22 @@ module _ (nested : Form → Bool → Parser Tree) (turns : ℕ) (ih : Complete t
 
   -- ---- bodies
 
-  -- what stands behind a statement of a body
-  abbrev Behind : Bool → ℕ → ℕ → ℕ → List Tree → Parser Tree
-  Behind free start end n found = λ rest. if sees shape.Separator rest then body_from nested turns free false start end n found (skip_separators rest) else ended found (record { start = start; end = end }) rest
+  -- what stands after a statement of a body
+  abbrev After : Bool → ℕ → ℕ → ℕ → List Tree → Parser Tree
+  After free start end n found = λ rest. if sees shape.Separator rest then body_from nested turns free false start end n found (skip_separators rest) else ended found (record { start = start; end = end }) rest
 
-  last-read : (free : Bool) (start end n : ℕ) (found : List Tree) (rs ys : List Token) → Gap rs ys → Over free rs ys → ReadsSome (Behind free start end (suc n) found) (tree.Body found (record { start = start; end = end })) rs ys
+  last-read : (free : Bool) (start end n : ℕ) (found : List Tree) (rs ys : List Token) → Gap rs ys → Over free rs ys → ReadsSome (After free start end (suc n) found) (tree.Body found (record { start = start; end = end })) rs ys
   unfolding body_from ended
   last-read free start end n found rs ys (Closed _) o = (passed _ _ o.separated (passed _ _ o.divided refl), within-self _)
   last-read free start end n found rs ys (Wide t us _ is g) o =
       (taken _ _ (shown shape.Separator t us is) (ap (λ zs. body_from nested turns free false start end (suc n) found zs) (taken _ _ (shown shape.Separator t us is) (skipped us ys g o.separated)) ∙ passed _ _ o.over refl), within-token t (gap-within us ys g))
 
   more-read : (free : Bool) (start : ℕ) (s : Tree) (ss : List Tree) (qs rs ys : List Token) → DerivesMore Inside free ss qs rs → Over free rs ys → (n : ℕ) (found : List Tree) → length qs < n → length qs < turns →
-      ReadsSome (Behind free start (span_of s).end n found) (tree.Body (found ++ ss) (record { start = start; end = (span_of (last_of s ss)).end })) qs ys
+      ReadsSome (After free start (span_of s).end n found) (tree.Body (found ++ ss) (record { start = start; end = (span_of (last_of s ss)).end })) qs ys
   unfolding body_from same_shape
   more-read free start s ss qs rs ys d o zero found less fits = absurd (let h : ⊥ = omega arith in h)
   more-read free start s ss qs rs ys (NoMore _ _ _) o (suc n) found less fits =
-      subst (λ all. ReadsSome (Behind free start (span_of s).end (suc n) found) (tree.Body all (record { start = start; end = (span_of s).end })) qs ys) (sym (append-nil found)) (last-read free start (span_of s).end n found qs ys o.gap o)
+      subst (λ all. ReadsSome (After free start (span_of s).end (suc n) found) (tree.Body all (record { start = start; end = (span_of s).end })) qs ys) (sym (append-nil found)) (last-read free start (span_of s).end n found qs ys o.gap o)
   more-read free start s ss qs rs ys (Another _ _ t next more us ps vs _ is gap d e) o (suc n) found less fits =
       let b = statement-begins free next ps vs d in
       let w = gap-within us ps gap in
@@ -311,8 +311,8 @@ module _ (nested : Form → Bool → Parser Tree) (turns : ℕ) (ih : Complete t
 
   -- separators before a `rescue` are passed over
   rescue-gap : (xs ps : List Token) (before : Tree) (k : Token) (qs : List Token) → Gap xs ps → Parted before ps (k ∷ qs) → Gap xs (k ∷ qs)
-  rescue-gap xs ps before k qs g (BehindNothing _) = g
-  rescue-gap xs ps before k qs g (BehindSeparator _ t _ is) = (gap-before xs t (k ∷ qs) g is).4
+  rescue-gap xs ps before k qs g (AfterNothing _) = g
+  rescue-gap xs ps before k qs g (AfterSeparator _ t _ is) = (gap-before xs t (k ∷ qs) g is).4
 
   -- up to a `rescue`
   pub rescued-read : (sounds : Sound nested) (free : Bool) (t : Tree) (xs ps qs : List Token) (k : Token) → DerivesBody Inside free t xs ps → Parted t ps (k ∷ qs) → Is shape.Rescue k → length xs < turns → ReadsSome (spec.body nested turns free false) t xs (k ∷ qs)

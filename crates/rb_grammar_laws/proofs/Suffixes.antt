@@ -21,7 +21,7 @@ use Rattle.rb_expr.specs.Operands.{call_suffix, constant_suffix, index_suffix, s
 use Rattle.rb_rules.specs.Tokens.{IsAny, Touches, IsIdentifier}
 use Rattle.rb_rules.specs.Spans.{across, last_of, suffix_span}
 use Rattle.rb_rules.specs.Forms.{LeavesBlock}
-use Rattle.rb_rules.specs.Grammar.{IsRow, DOTS, posted, DerivesBrackets, DerivesBlockBehind, DerivesOperand, DerivesSuffix, DerivesIndex}
+use Rattle.rb_rules.specs.Grammar.{IsRow, DOTS, posted, DerivesBrackets, DerivesBlockAfter, DerivesOperand, DerivesSuffix, DerivesIndex}
 use Rattle.rb_rules.specs.Grammar.DerivesSuffix.{Calls, Within as Inner, Indexed}
 use Rattle.rb_rules.specs.Grammar.DerivesIndex.{Index}
 use Rattle.rb_rules.specs.Grammar.DerivesOperand.{Bare, Suffixed}
@@ -30,8 +30,8 @@ use Rattle.rb_grammar.proofs.Lists.{last-got}
 use Rattle.rb_grammar_laws.specs.Ends.{Ends, OPERAND_ENDS, PRIMARY_ENDS}
 use Rattle.rb_grammar_laws.proofs.Steps.{on, taken, by-row, each, not-false, names, Past, past-token, past-within, within-past, within-length, ends-by, ends-wider, identifier, constant}
 use Rattle.rb_grammar_laws.proofs.Complete.{Complete}
-use Rattle.rb_grammar_laws.proofs.Calls.{index-read, brackets-read, behind-read}
-use Rattle.rb_grammar_laws.proofs.Operands.{behind-no-paren, primary-read}
+use Rattle.rb_grammar_laws.proofs.Calls.{index-read, brackets-read, after-read}
+use Rattle.rb_grammar_laws.proofs.Operands.{after-no-paren, primary-read}
 
 -- ---- the last of a list
 
@@ -115,14 +115,14 @@ module _ (nested : Form → Bool → Parser Tree) (turns : ℕ) (ih : Complete t
   abbrev SuffixRead : Bool → List Token → Suffix Tree → Token → Token → List Token → List Token → Type 0
   SuffixRead free all s before last xs ys = (a_suffix nested turns free all xs ≡ Ok (Some s, ys)) × Within xs (last ∷ ys)
 
-  call-read : (free : Bool) (d n middle last : Token) (how : Dot) (w : List ℕ) (arguments : Option (List (Argument Tree))) (block : Option (Block Tree)) (xs ps ys : List Token) → IsIdentifier n w → DerivesBrackets arguments n middle xs ps → DerivesBlockBehind free block middle last ps ys →
+  call-read : (free : Bool) (d n middle last : Token) (how : Dot) (w : List ℕ) (arguments : Option (List (Argument Tree))) (block : Option (Block Tree)) (xs ps ys : List Token) → IsIdentifier n w → DerivesBrackets arguments n middle xs ps → DerivesBlockAfter free block middle last ps ys →
       (block ≡ None ⊎ LeavesBlock arguments) → Ends PRIMARY_ENDS free ys → length (d ∷ n ∷ xs) < turns →
       (call_suffix nested turns free how (d ∷ n ∷ xs) ≡ Ok (suffix.Call how w n.span arguments block (across d.span last.span), ys)) × Within (d ∷ n ∷ xs) (last ∷ ys)
   unfolding call_suffix
   call-read free d n middle last how w arguments block xs ps ys is e f leaves ends fits =
-      let r = brackets-read nested turns ih free arguments n middle xs ps e (behind-no-paren nested turns ih free block middle last ps ys f ends) (let h : length xs < turns = omega arith in h) in
+      let r = brackets-read nested turns ih free arguments n middle xs ps e (after-no-paren nested turns ih free block middle last ps ys f ends) (let h : length xs < turns = omega arith in h) in
       let short = within-length r.1 in
-      let l = behind-read nested turns ih free arguments block middle last ps ys f leaves ends (let h : length ps < turns = omega arith in h) in (
+      let l = after-read nested turns ih free arguments block middle last ps ys f leaves ends (let h : length ps < turns = omega arith in h) in (
         on _ (names shape.Identifier n xs w (identifier n w is) (ap words_of is)) (on _ r.0 (on _ l.0
             (ap (λ end. Ok (suffix.Call how w n.span arguments block (record { start = d.span.start; end = end }), ys)) (l.2 middle.span.end refl)))),
         within-token d (within-more r.1 l.1),
@@ -196,7 +196,7 @@ module _ (nested : Form → Bool → Parser Tree) (turns : ℕ) (ih : Complete t
   none-read free all [] ends = refl
   none-read free all (t ∷ ts) ends = ap (λ p. p (t ∷ ts)) (none-by free all (shape_of t.kind) (not-false _ (each (λ c. not (is_suffix c)) OPERAND_ENDS refl _ ends.0)))
 
-  -- an operand behind which no suffix stands
+  -- an operand after which no suffix stands
   pub post-read : (free : Bool) (p : Tree) (ss : List (Suffix Tree)) (last : Token) (xs ys : List Token) → DerivesOperand free p ss last xs ys → Ends OPERAND_ENDS free ys → length xs < turns → (post nested turns free xs ≡ Ok (posted p ss, ys)) × Past xs ys
   unfolding suffixes_from same_shape
   post-read free p ss last xs ys d ends fits = go o.left o.enough o.reads

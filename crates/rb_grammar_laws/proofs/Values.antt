@@ -29,14 +29,14 @@ use Rattle.rb_expr.specs.Lists.{end_with, end_of_argument}
 use Rattle.rb_expr.specs.Shapes.{has_prefix, prefix_of}
 use Rattle.rb_expr.specs.Operands.{post}
 use Rattle.rb_expr.specs.Operators as operators
-use Rattle.rb_expr.specs.Operators.{tern, tern_behind}
+use Rattle.rb_expr.specs.Operators.{tern, tern_after}
 use Rattle.rb_expr.specs.Statements.{ending_of, ending_at, ending_of_suffix, ending_of_last, is_target, is_plain_target, is_callee, follower_by, follower_of, assigned, operator_assigned, command, followed_by, followed, from_operand, value}
 use Rattle.rb_rules.specs.Tokens.{Is, IsAny, IsOneOf, StartsWith}
 use Rattle.rb_rules.specs.Spans.{across, last_of, argument_span, block_or}
 use Rattle.rb_rules.specs.Forms.{ASSIGNMENTS, NO_COMMAND, HasNoBlock, AreOrdered}
 use Rattle.rb_rules.specs.Grammar.{IsRow, posted, named_call, span_of_arguments, DerivesOperand, DerivesTarget, DerivesCallee, DerivesDo, DerivesValue, DerivesArguments, DerivesIndex, DerivesTerm}
 use Rattle.rb_rules.specs.Grammar.DerivesBrackets.{NoBrackets}
-use Rattle.rb_rules.specs.Grammar.DerivesBlockBehind.{NoBlock}
+use Rattle.rb_rules.specs.Grammar.DerivesBlockAfter.{NoBlock}
 use Rattle.rb_rules.specs.Grammar.DerivesPrimary.{NameAlone, InstanceName, ConstantName, Yields, Supers}
 use Rattle.rb_rules.specs.Grammar.DerivesSuffix.{Calls, Indexed}
 use Rattle.rb_rules.specs.Grammar.DerivesOperand.{Bare, Suffixed}

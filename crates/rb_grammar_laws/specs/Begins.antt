@@ -29,11 +29,11 @@ SIMPLE = shape.Return ∷ shape.Break ∷ shape.Next ∷ TERMS
 abbrev pub ARGUMENTS : List Shape
 ARGUMENTS = shape.Label ∷ shape.Ampersand ∷ TERMS
 
--- a body without declarations, or what stands behind an empty one
+-- a body without declarations, or what stands after an empty one
 abbrev pub BODIES : List Shape
 BODIES = shape.Separator ∷ (SIMPLE ++ BODY_ENDS)
 
--- a sign that belongs to the number behind it: no `-` where `**` follows the number
+-- a sign that belongs to the number after it: no `-` where `**` follows the number
 abbrev pub IsSigned : Token → List Token → Type 0
 IsSigned t ts = (how : Sign) × IsRow SIGNS (shape_of t.kind) how × IsBeforeNumber t ts × (how ≡ sign.Plus ⊎ ¬ IsRaised ts)
 

@@ -1,4 +1,4 @@
--- What may stand behind a form in a program. None of it would go on with the form.
+-- What may stand after a form in a program. None of it would go on with the form.
 use Rattle.std.specs.Prelude.{◌≡◌, ℕ, ◌<◌, Bool, true, List, [], ◌∷◌, ◌++◌, Some}
 use Rattle.rb_tree.specs.Tokens.{shape_of}
 use Rattle.rb_tree.specs.declared.syntax.Binary.{Binary}

@@ -17,7 +17,7 @@ EQUALITIES = token (kind.Whole (codes "1")) 0 1 ∷ token kind.Equal 2 4 ∷ tok
 abbrev pub APART : List Token
 APART = token (kind.Identifier (codes "f")) 0 1 ∷ token kind.OpenBracket 2 3 ∷ token (kind.Whole (codes "1")) 3 4 ∷ token kind.CloseBracket 4 5 ∷ []
 
--- `f(a: 1, 2)`: an argument by place stands behind one by name
+-- `f(a: 1, 2)`: an argument by place stands after one by name
 abbrev pub DISORDER : List Token
 DISORDER =
     token (kind.Identifier (codes "f")) 0 1 ∷ token kind.OpenParen 1 2 ∷ token (kind.Label (codes "a")) 2 4 ∷ token (kind.Whole (codes "1")) 5 6 ∷ token kind.Comma 6 7

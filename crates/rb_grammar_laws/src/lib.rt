@@ -2,7 +2,7 @@
 //! have two trees.
 //!
 //! `rb_grammar` has the other half: what the parser answers derives. `Begins` has what forms begin with, and `Ends` what may stand
-//! behind them, so that a form is read to its end and no further.
+//! after them, so that a form is read to its end and no further.
 #![tactic(auto)]
 
 ghost use Rattle.rb_grammar_laws.specs.Examples.{APART, DISORDER, EQUALITIES, HasNoTree, INNER, REPEATED, TWICE, UNDIVIDED};

@@ -10,13 +10,13 @@ use Rattle.std.proofs.lemmas.Bool.Decides.{nat_tests}
 use Rattle.rb_tree.specs.Tokens.{same_shape}
 use Rattle.rb_tree.specs.declared.token.Shape.{Shape}
 use Rattle.rb_tree.specs.declared.token.Shape.TheVariants as shape
-use Rattle.rb_lex.specs.Chars.{is_in, begins_name, is_upper, run_len, blank_len, line_len, behind}
+use Rattle.rb_lex.specs.Chars.{is_in, begins_name, is_upper, run_len, blank_len, line_len, after}
 use Rattle.rb_lex.specs.Words.{word_of, identifier_len, is_labelled, symbol_len, ends_with_equals}
 use Rattle.rb_lex.specs.Numbers.{more_digits, begins_digits, digits_len, exponent_end, fraction_end, based, decimal, spelling_of, is_foreign}
 use Rattle.rb_lex.specs.Operators as ops
-use Rattle.rb_lex.specs.Cuts.{name, constant, number, variable, judged, sign_at, sign, colon, mark, cut_of, blanks_len, label, token, keyword, is_behind_dot, names_method, is_outside, is_bad, ends_program}
+use Rattle.rb_lex.specs.Cuts.{name, constant, number, variable, judged, sign_at, sign, colon, mark, cut_of, blanks_len, label, token, keyword, is_after_dot, names_method, is_outside, is_bad, ends_program}
 use Rattle.rb_lex.specs.Pieces.{IsWithin, stop_at, piece_from, piece_of, is_touched}
-use Rattle.rb_lex.specs.Lexed.{words_of, IsQuoted, behind_line, joined, string_behind, nested, accepted, continues, blanked, opened, code_step, quoted, interpolated, string_step, step}
+use Rattle.rb_lex.specs.Lexed.{words_of, IsQuoted, after_line, joined, string_after, nested, accepted, continues, blanked, opened, code_step, quoted, interpolated, string_step, step}
 use Rattle.rb_lex.specs.declared.piece.Stop.{Stop}
 use Rattle.rb_lex.specs.declared.piece.Stop.TheVariants as stop
 use Rattle.rb_lex.specs.declared.piece.Piece.{Piece}
@@ -124,10 +124,10 @@ digits-under s z = split (λ n. Under n z) (begins_digits s z) (more_digits s z)
 exponent-under : (z : List ℕ) (at : ℕ) → Under at z → Under (exponent_end z at) z
 exponent-under z at u =
     split (λ n. Under n z) (not (slice_index z at == 101)) at _ (λ e. u) (λ e. let one = under-next at z u (is-low (slice_index z at) 101 (omega arith) (no (slice_index z at == 101) e)) in
-    split (λ n. Under n z) (is_in set.Decimal (slice_index z (at + 1))) (at + 1 + digits_len set.Decimal (behind (at + 1) z)) _
-    (λ f. under-add (at + 1) (digits_len set.Decimal (behind (at + 1) z)) z one (digits-under set.Decimal (behind (at + 1) z)))
-    (λ f. split (λ n. Under n z) ((slice_index z (at + 1) == 43 || slice_index z (at + 1) == 45) && is_in set.Decimal (slice_index z (at + 2))) (at + 2 + digits_len set.Decimal (behind (at + 2) z)) at
-    (λ g. under-add (at + 2) (digits_len set.Decimal (behind (at + 2) z)) z (two one (and-both (slice_index z (at + 1) == 43 || slice_index z (at + 1) == 45) (is_in set.Decimal (slice_index z (at + 2))) g).0) (digits-under set.Decimal (behind (at + 2) z)))
+    split (λ n. Under n z) (is_in set.Decimal (slice_index z (at + 1))) (at + 1 + digits_len set.Decimal (after (at + 1) z)) _
+    (λ f. under-add (at + 1) (digits_len set.Decimal (after (at + 1) z)) z one (digits-under set.Decimal (after (at + 1) z)))
+    (λ f. split (λ n. Under n z) ((slice_index z (at + 1) == 43 || slice_index z (at + 1) == 45) && is_in set.Decimal (slice_index z (at + 2))) (at + 2 + digits_len set.Decimal (after (at + 2) z)) at
+    (λ g. under-add (at + 2) (digits_len set.Decimal (after (at + 2) z)) z (two one (and-both (slice_index z (at + 1) == 43 || slice_index z (at + 1) == 45) (is_in set.Decimal (slice_index z (at + 2))) g).0) (digits-under set.Decimal (after (at + 2) z)))
     (λ g. u)))
   where
     no : (b : Bool) → not b ≡ false → b ≡ true
@@ -145,8 +145,8 @@ exponent-under z at u =
 
 fraction-under : (z : List ℕ) (at : ℕ) → Under at z → Under (fraction_end z at) z
 fraction-under z at u =
-    split (λ n. Under n z) (slice_index z at == 46 && is_in set.Decimal (slice_index z (at + 1))) (exponent_end z (at + 1 + digits_len set.Decimal (behind (at + 1) z))) 0
-    (λ e. exponent-under z (at + 1 + digits_len set.Decimal (behind (at + 1) z)) (under-add (at + 1) (digits_len set.Decimal (behind (at + 1) z)) z (under-next at z u (is-low (slice_index z at) 46 (omega arith) (and-both (slice_index z at == 46) (is_in set.Decimal (slice_index z (at + 1))) e).0)) (digits-under set.Decimal (behind (at + 1) z))))
+    split (λ n. Under n z) (slice_index z at == 46 && is_in set.Decimal (slice_index z (at + 1))) (exponent_end z (at + 1 + digits_len set.Decimal (after (at + 1) z))) 0
+    (λ e. exponent-under z (at + 1 + digits_len set.Decimal (after (at + 1) z)) (under-add (at + 1) (digits_len set.Decimal (after (at + 1) z)) z (under-next at z u (is-low (slice_index z at) 46 (omega arith) (and-both (slice_index z at == 46) (is_in set.Decimal (slice_index z (at + 1))) e).0)) (digits-under set.Decimal (after (at + 1) z))))
     (λ e. under-none z)
 
 abbrev SpellsUnder : List ℕ → Spelling → Type 0
@@ -159,7 +159,7 @@ decimal-under z low =
     (λ e. split (SpellsUnder z) (slice_index z 0 == 48) _ _ (λ f. under-one z low) (λ f. digits-under set.Decimal z))
 
 based-under : (s : Set) (z : List ℕ) → slice_index z 0 < 128 → slice_index z 1 < 128 → SpellsUnder z (based s z)
-based-under s z low next = under-add 2 (digits_len s (behind 2 z)) z (under-next 1 z (under-one z low) next) (digits-under s (behind 2 z))
+based-under s z low next = under-add 2 (digits_len s (after 2 z)) z (under-next 1 z (under-one z low) next) (digits-under s (after 2 z))
 
 spelling-under : (z : List ℕ) → slice_index z 0 < 128 → SpellsUnder z (spelling_of z)
 unfolding spelling_of
@@ -317,7 +317,7 @@ name-ends : (b : Before) (z : List ℕ) → Ends (name b z) z
 unfolding name
 name-ends b z =
     split (λ c. Ends c z) (is_labelled z end) (label end) _ (λ e. label-under z end u e)
-    (λ e. split (λ c. Ends c z) (is_behind_dot b) _ _ (λ f. u) (λ f. by (word_of (take end z))))
+    (λ e. split (λ c. Ends c z) (is_after_dot b) _ _ (λ f. u) (λ f. by (word_of (take end z))))
   where
     end : ℕ
     end = identifier_len z
@@ -334,7 +334,7 @@ constant-ends : (b : Before) (z : List ℕ) → Ends (constant b z) z
 unfolding constant
 constant-ends b z =
     split (λ c. Ends c z) (is_labelled z (run_len set.Word z)) (label (run_len set.Word z)) _ (λ e. label-under z (run_len set.Word z) (run-under set.Word z) e)
-    (λ e. split (λ c. Ends c z) (is_behind_dot b) _ _ (λ f. run-under set.Word z) (λ f. by (word_of (take (run_len set.Word z) z))))
+    (λ e. split (λ c. Ends c z) (is_after_dot b) _ _ (λ f. run-under set.Word z) (λ f. by (word_of (take (run_len set.Word z) z))))
   where
     by : (w : Word) → Ends (elim w [ word.Foreign ↦ cuts.Outside | word.Free ↦ token shape.Constant (run_len set.Word z) before.Constant true | word.Keyword s ↦ token shape.Constant (run_len set.Word z) before.Constant true ]) z
     by word.Free = run-under set.Word z
@@ -351,7 +351,7 @@ variable-ends : (z : List ℕ) → slice_index z 0 < 128 → Ends (variable z) z
 unfolding variable
 variable-ends z low =
     split (λ c. Ends c z) (slice_index z 1 == 64) cuts.Outside _ (λ e. tt)
-    (λ e. split (λ c. Ends c z) (begins_name (slice_index z 1)) _ cuts.Bad (λ f. under-add 1 (run_len set.Word (behind 1 z)) z (under-one z low) (run-under set.Word (behind 1 z))) (λ f. tt))
+    (λ e. split (λ c. Ends c z) (begins_name (slice_index z 1)) _ cuts.Bad (λ f. under-add 1 (run_len set.Word (after 1 z)) z (under-one z low) (run-under set.Word (after 1 z))) (λ f. tt))
 
 judged-ends : (look : Look) (s : Shape) (len : ℕ) (rest z : List ℕ) → Under len z → Ends (judged look s len rest) z
 unfolding judged
@@ -361,15 +361,15 @@ sign-ends : (look : Look) (z : List ℕ) → slice_index z 0 < 128 → Ends (sig
 unfolding sign
 sign-ends look z low = by (sign_at look.before z) (sign_at-low look.before z)
   where
-    by : (g : Sign) → SignLow (slice_index z 1) (slice_index z 2) g → Ends (elim g [ signs.Nothing ↦ cuts.Bad | signs.Foreign ↦ cuts.Outside | signs.Operator s len ↦ judged look s len (behind len z) ]) z
+    by : (g : Sign) → SignLow (slice_index z 1) (slice_index z 2) g → Ends (elim g [ signs.Nothing ↦ cuts.Bad | signs.Foreign ↦ cuts.Outside | signs.Operator s len ↦ judged look s len (after len z) ]) z
     by signs.Nothing h = tt
     by signs.Foreign h = tt
-    by (signs.Operator s len) h = judged-ends look s len (behind len z) z (low-under s len z low h)
+    by (signs.Operator s len) h = judged-ends look s len (after len z) z (low-under s len z low h)
 
 colon-ends : (look : Look) (z : List ℕ) → slice_index z 0 < 128 → Ends (colon look z) z
 unfolding colon
 colon-ends look z low =
-    split (λ c. Ends c z) (not (symbol_len (behind 1 z) == 0)) _ _ (λ e. under-add 1 (symbol_len (behind 1 z)) z (under-one z low) (symbol-under (behind 1 z)))
+    split (λ c. Ends c z) (not (symbol_len (after 1 z) == 0)) _ _ (λ e. under-add 1 (symbol_len (after 1 z)) z (under-one z low) (symbol-under (after 1 z)))
     (λ e. split (λ c. Ends c z) _ (sign look z) cuts.Outside (λ f. sign-ends look z low) (λ f. tt))
 
 -- ---- blanks
@@ -452,12 +452,12 @@ ascii-take (suc n) [] u i = omega arith
 ascii-take (suc n) (b ∷ z) u zero = u 0 (omega arith)
 ascii-take (suc n) (b ∷ z) u (suc i) = ascii-take n z (λ j h. u (suc j) (omega arith)) i
 
-ascii-behind : (z : List ℕ) → IsAscii z → IsAscii (behind 1 z)
-ascii-behind z a i = subst (λ x. x < 128) (sym (get_or-drop 1 z i 0)) (a (1 + i))
+ascii-after : (z : List ℕ) → IsAscii z → IsAscii (after 1 z)
+ascii-after z a i = subst (λ x. x < 128) (sym (get_or-drop 1 z i 0)) (a (1 + i))
 
 pub words-text : (s : Shape) (n : ℕ) (z : List ℕ) → Under n z → IsUtf8 (words_of s n z)
 words-text s n z u =
-    split IsUtf8 (same_shape s shape.InstanceVariable || same_shape s shape.Symbol) (behind 1 (take n z)) _ (λ e. IsUtf8-from_ascii (behind 1 (take n z)) (ascii-behind (take n z) (ascii-take n z u)))
+    split IsUtf8 (same_shape s shape.InstanceVariable || same_shape s shape.Symbol) (after 1 (take n z)) _ (λ e. IsUtf8-from_ascii (after 1 (take n z)) (ascii-after (take n z) (ascii-take n z u)))
     (λ e. split IsUtf8 (same_shape s shape.Label) (take (n - 1) z) (take n z) (λ f. IsUtf8-from_ascii (take (n - 1) z) (ascii-take (n - 1) z (λ i h. u i (omega arith)))) (λ f. IsUtf8-from_ascii (take n z) (ascii-take n z u)))
 
 pub token_text : (look : Look) (z : List ℕ) (x : Lexeme) → cut_of look z ≡ cuts.Token x → IsUtf8 (words_of x.shape x.len z)
@@ -544,25 +544,25 @@ abbrev StepText : List ℕ → Result (ℕ × State) LexEnd → Type 0
 StepText z (Ok y) = y.0 ≤ length z → IsUtf8 (drop y.0 z) × IsQuoted y.1.string
 StepText z (Err e) = Unit {0}
 
-line-string : (at : ℕ) (s : State) → IsQuoted s.string → IsQuoted (behind_line at s).string
+line-string : (at : ℕ) (s : State) → IsQuoted s.string → IsQuoted (after_line at s).string
 line-string at s q = split (λ (t : State). IsQuoted t.string) s.keeps _ _ (λ e. q) (λ e. q)
 
 join-string : (goes : Bool) (s : State) → IsQuoted s.string → IsQuoted (joined goes s).string
 join-string goes s q = split (λ (t : State). IsQuoted t.string) goes _ s (λ e. q) (λ e. q)
 
-behind-string : (end : ℕ) (o : Option (Option ℕ)) → IsQuoted (string_behind end o)
-behind-string end None = tt
-behind-string end (Some None) = tt
-behind-string end (Some (Some opening)) = omega arith
+after-string : (end : ℕ) (o : Option (Option ℕ)) → IsQuoted (string_after end o)
+after-string end None = tt
+after-string end (Some None) = tt
+after-string end (Some (Some opening)) = omega arith
 
 nest-string : (c : Shape) (end : ℕ) (s : State) → IsQuoted s.string → IsQuoted (nested c end s).string
 nest-string c end s q =
     split (λ (t : State). IsQuoted t.string) (same_shape c shape.OpenBrace) _ _ (λ e. q)
-    (λ e. split (λ (t : State). IsQuoted t.string) (same_shape c shape.CloseBrace) _ s (λ f. behind-string end (slice_get s.nesting (length s.nesting - 1))) (λ f. q))
+    (λ e. split (λ (t : State). IsQuoted t.string) (same_shape c shape.CloseBrace) _ s (λ f. after-string end (slice_get s.nesting (length s.nesting - 1))) (λ f. q))
 
 accept-string : (x : Lexeme) (at : ℕ) (z : List ℕ) (s : State) → IsQuoted s.string → IsQuoted (accepted x at z s).string
 unfolding accepted
-accept-string x at z s q = nest-string x.shape (at + x.len) _ (join-string (continues x.shape (behind x.len z)) s q)
+accept-string x at z s q = nest-string x.shape (at + x.len) _ (join-string (continues x.shape (after x.len z)) s q)
 
 code-text : (at : ℕ) (z : List ℕ) (s : State) → IsUtf8 z → IsQuoted s.string → StepText z (code_step at z s)
 unfolding code_step
@@ -570,7 +570,7 @@ code-text at z s text q = by (cut_of s.look z) (cut-ends s.look z)
   where
     by : (c : Cut) → Ends c z → StepText z (elim c [
       | cuts.Blank len is_fresh ↦ Ok (len, blanked is_fresh s)
-      | cuts.Line ↦ Ok (1, behind_line at s)
+      | cuts.Line ↦ Ok (1, after_line at s)
       | cuts.Quote ↦ Ok (1, opened (slice_index z 0) at s)
       | cuts.Token x ↦ Ok (x.len, accepted x at z s)
       | cuts.Outside ↦ Err (Outside at)
@@ -585,7 +585,7 @@ code-text at z s text q = by (cut_of s.look z) (cut-ends s.look z)
 
 quoted-text : (o : Opened) (at n : ℕ) (z : List ℕ) (s : State) → IsUtf8 z → slice_index z n < 128 → StepText z (quoted o at n z s)
 quoted-text o at n z s text low =
-    split (StepText z) (is_touched (behind (n + 1) z)) _ _ (λ e. tt) (λ e. λ m. (IsUtf8-drop z (n + 1) text (IsCharBoundary-after_ascii z n text (omega arith) low), tt))
+    split (StepText z) (is_touched (after (n + 1) z)) _ _ (λ e. tt) (λ e. λ m. (IsUtf8-drop z (n + 1) text (IsCharBoundary-after_ascii z n text (omega arith) low), tt))
 
 interpolated-text : (o : Opened) (at n : ℕ) (z : List ℕ) (s : State) → IsUtf8 z → slice_index z (n + 1) < 128 → StepText z (interpolated o at n z s)
 interpolated-text o at n z s text low m =
@@ -615,6 +615,6 @@ step-holds at z s text q = by s.string q
     by None h = code-text at z s text q
     by (Some o) h = string-text o at z s text h
 
--- behind a step the text is UTF-8 again, and the quote of the open string ASCII
+-- after a step the text is UTF-8 again, and the quote of the open string ASCII
 pub step_text : (at : ℕ) (z : List ℕ) (s : State) (n : ℕ) (more : State) → step at z s ≡ Ok (n, more) → IsUtf8 z → IsQuoted s.string → n ≤ length z → IsUtf8 (drop n z) × IsQuoted more.string
 step_text at z s n more e text q h = subst (StepText z) e (step-holds at z s text q) h

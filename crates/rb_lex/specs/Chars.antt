@@ -29,7 +29,7 @@ abbrev pub run_len : Set → List ℕ → ℕ
 run_len s z = prefix_len (is_in s) z
 
 -- How long the blank is with which the text begins, or 0: a blank is a space, a tab, a `\r` before `\n`, or a backslash with the
--- `\n` or the `\r\n` behind it.
+-- `\n` or the `\r\n` after it.
 abbrev pub blank_len : List ℕ → ℕ
 blank_len z =
     let b = slice_index z 0 in
@@ -49,5 +49,5 @@ line_len [] = 0
 line_len (b ∷ z) = if b == 10 || (b == 13 && slice_index z 0 == 10) then 0 else 1 + line_len z
 
 -- the text from a place on
-abbrev pub behind : ℕ → List ℕ → List ℕ
-behind at z = drop at z
+abbrev pub after : ℕ → List ℕ → List ℕ
+after at z = drop at z

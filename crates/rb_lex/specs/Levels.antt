@@ -5,7 +5,7 @@ use Rattle.std.specs.List.{starts_with, prefix_len}
 use Rattle.std.specs.Str.{encode_utf8_all}
 use Rattle.srb_terms.specs.declared.level.Level.{Level}
 use Rattle.srb_terms.specs.declared.level.Level.TheVariants.{Ignore, False, True, Strict, Strong}
-use Rattle.rb_lex.specs.Chars.{is_in, run_len, blank_len, line_len, behind}
+use Rattle.rb_lex.specs.Chars.{is_in, run_len, blank_len, line_len, after}
 use Rattle.rb_lex.specs.declared.chars.Set.TheVariants as set
 use Rattle.rb_lex.specs.declared.heading.Heading.{Heading}
 use Rattle.rb_lex.specs.declared.heading.Heading.TheVariants.{Passed, Given, Other}
@@ -19,8 +19,8 @@ level_named word =
     else (if bytes_eq word (codes "strict") then Some Strict
     else (if bytes_eq word (codes "strong") then Some Strong else None))))
 
-abbrev pub behind_blanks : List ℕ → List ℕ
-behind_blanks text = behind (run_len set.Blank text) text
+abbrev pub after_blanks : List ℕ → List ℕ
+after_blanks text = after (run_len set.Blank text) text
 
 -- how many bytes stand before the first blank, or in all where there is none
 abbrev pub word_len : List ℕ → ℕ
@@ -29,15 +29,15 @@ word_len text = prefix_len (λ b. not (is_in set.Blank b)) text
 -- the level that a text names which holds one word and blanks around it
 abbrev pub level_alone : List ℕ → Option Level
 level_alone text =
-    let word = behind_blanks text in
+    let word = after_blanks text in
     let n = word_len word in
-    if length (behind_blanks (drop n word)) == 0 then level_named (take n word) else None
+    if length (after_blanks (drop n word)) == 0 then level_named (take n word) else None
 
 -- the level that the text of a comment gives
 unfoldable pub level_in : List ℕ → Option Level
 level_in comment =
-    let text = behind_blanks comment in
-    if starts_with nat_eq text (codes "typed:") then level_alone (behind 6 text) else None
+    let text = after_blanks comment in
+    if starts_with nat_eq text (codes "typed:") then level_alone (after 6 text) else None
 
 -- what goes on is at least one byte long, and not longer than the text
 abbrev pub IsWithin : Heading → ℕ → Type 0

@@ -8,9 +8,9 @@ use Rattle.rb_tree.specs.declared.token.TokenKind.{TokenKind}
 use Rattle.rb_tree.specs.declared.token.TokenKind.TheVariants as kind
 use Rattle.rb_tree.specs.declared.token.Shape.{Shape}
 use Rattle.rb_tree.specs.declared.token.Shape.TheVariants as shape
-use Rattle.rb_lex.specs.Chars.{is_letter, behind}
+use Rattle.rb_lex.specs.Chars.{is_letter, after}
 use Rattle.rb_lex.specs.Pieces.{piece_of, is_touched}
-use Rattle.rb_lex.specs.Cuts.{cut_of, is_opener, behind_operator, names_method}
+use Rattle.rb_lex.specs.Cuts.{cut_of, is_opener, after_operator, names_method}
 use Rattle.rb_lex.specs.declared.cut.Before.{Before}
 use Rattle.rb_lex.specs.declared.cut.Before.TheVariants as before
 use Rattle.rb_lex.specs.declared.cut.Lexeme.{Lexeme}
@@ -21,14 +21,14 @@ use Rattle.rb_lex.specs.declared.state.State.{State}
 use Rattle.rb_lex.specs.declared.LexEnd.{LexEnd}
 use Rattle.rb_lex.specs.declared.LexEnd.TheVariants.{Bad, Outside, NoMemory}
 
--- an answer, or the same refusal; want of memory may take the place of both
+-- an answer, or the same refusal; or memory ran out
 abbrev pub Gives : {A B : Type 0} → (A → B) → Result A LexEnd → Result B LexEnd → Type 0
 Gives f (Ok x) answer = answer ≡ Ok (f x)
 Gives f (Err (Bad at)) answer = answer ≡ Err (Bad at)
 Gives f (Err (Outside at)) answer = answer ≡ Err (Outside at)
 Gives f (Err NoMemory) answer = Unit {0}
 
--- want of memory
+-- out of memory
 abbrev pub IsNoMemory : LexEnd → Type 0
 IsNoMemory end = end ≡ NoMemory
 
@@ -37,7 +37,7 @@ IsNoMemory end = end ≡ NoMemory
 -- the bytes of the token that are its words: without the `@` of a variable and the `:` of a symbol and a label
 abbrev pub words_of : Shape → ℕ → List ℕ → List ℕ
 words_of s len z =
-    if same_shape s shape.InstanceVariable || same_shape s shape.Symbol then behind 1 (take len z)
+    if same_shape s shape.InstanceVariable || same_shape s shape.Symbol then after 1 (take len z)
     else (if same_shape s shape.Label then take (len - 1) z else take len z)
 
 abbrev pub named_kind : Shape → List ℕ → TokenKind
@@ -66,8 +66,8 @@ pushed k start end s =
 
 -- A line's end: a separator, unless the token before is an operator other than `)`, `]`, `}`, a method's name and the `|` that
 -- ends block parameters, is a label, or does not exist.
-abbrev pub behind_line : ℕ → State → State
-behind_line at s =
+abbrev pub after_line : ℕ → State → State
+after_line at s =
     if s.keeps then record s { tokens = s.tokens ++ token_at kind.Separator at (at + 1) ∷ []; look = record { before = before.Plain; is_blank = true; is_fresh = true } }
     else record s { look = record { before = s.look.before; is_blank = true; is_fresh = true } }
 
@@ -75,33 +75,33 @@ behind_line at s =
 abbrev pub continues : Shape → List ℕ → Bool
 continues s rest = same_shape s shape.SafeDot || (same_shape s shape.Dot && is_letter (slice_index rest 0))
 
--- where the token goes on with the line before, the line ends behind that line's last token are no separators
+-- where the token goes on with the line before, the line ends after that line's last token are no separators
 abbrev pub joined : Bool → State → State
 joined goes s = if goes then record s { tokens = take s.mark s.tokens } else s
 
--- and the token stands behind that last token
+-- and the token stands after that last token
 abbrev pub continued : Bool → Before → Lexeme → Lexeme
-continued goes last x = if goes then record x { before = behind_operator last x.shape; keeps = names_method last } else x
+continued goes last x = if goes then record x { before = after_operator last x.shape; keeps = names_method last } else x
 
--- the string that goes on behind a `}`, if that ends an interpolation
-abbrev pub string_behind : ℕ → Option (Option ℕ) → Option Opened
-string_behind end None = None
-string_behind end (Some None) = None
-string_behind end (Some (Some opening)) = Some (record { quote = 34; opening = opening; from = end })
+-- the string that goes on after a `}`, if that ends an interpolation
+abbrev pub string_after : ℕ → Option (Option ℕ) → Option Opened
+string_after end None = None
+string_after end (Some None) = None
+string_after end (Some (Some opening)) = Some (record { quote = 34; opening = opening; from = end })
 
--- behind `}` what was opened last is closed
+-- after `}` what was opened last is closed
 abbrev pub closed : ℕ → State → State
 closed end s =
-    record s { nesting = take (length s.nesting - 1) s.nesting; string = string_behind end (slice_get s.nesting (length s.nesting - 1)) }
+    record s { nesting = take (length s.nesting - 1) s.nesting; string = string_after end (slice_get s.nesting (length s.nesting - 1)) }
 
--- behind the braces the open ones are counted
+-- after the braces the open ones are counted
 abbrev pub nested : Shape → ℕ → State → State
 nested c end s =
     if same_shape c shape.OpenBrace then record s { nesting = s.nesting ++ None ∷ [] }
     else (if same_shape c shape.CloseBrace then closed end s else s)
 
--- Behind a token. A `|` whose previous token is `{` or `do` opens block parameters, and the next `|` closes them; a line's end
--- behind that one is a separator.
+-- After a token. A `|` whose previous token is `{` or `do` opens block parameters, and the next `|` closes them; a line's end
+-- after that one is a separator.
 abbrev pub entered : Lexeme → State → State
 entered x s =
     let is_bar = same_shape x.shape shape.Pipe in
@@ -112,10 +112,10 @@ entered x s =
       has_bars = (if is_bar then not s.has_bars && is_opener s.look.before else s.has_bars);
     }
 
--- the state behind a token at the place `at`, with which the text `z` begins
+-- the state after a token at the place `at`, with which the text `z` begins
 unfoldable pub accepted : Lexeme → ℕ → List ℕ → State → State
 accepted x at z s =
-    let goes = continues x.shape (behind x.len z) in
+    let goes = continues x.shape (after x.len z) in
     let end = at + x.len in
     nested x.shape end (entered (continued goes s.last x) (pushed (kind_of x.shape (words_of x.shape x.len z)) at end (joined goes s)))
 
@@ -125,12 +125,12 @@ blanked is_fresh s = record s { look = record { before = s.look.before; is_blank
 abbrev pub opened : ℕ → ℕ → State → State
 opened quote at s = record s { string = Some (record { quote = quote; opening = at; from = at }) }
 
--- one step outside strings: how many bytes it takes, and the state behind them
+-- one step outside strings: how many bytes it takes, and the state after them
 unfoldable pub code_step : ℕ → List ℕ → State → Result (ℕ × State) LexEnd
 code_step at z s =
     elim (cut_of s.look z) [
       | cuts.Blank len is_fresh ↦ Ok (len, blanked is_fresh s)
-      | cuts.Line ↦ Ok (1, behind_line at s)
+      | cuts.Line ↦ Ok (1, after_line at s)
       | cuts.Quote ↦ Ok (1, opened (slice_index z 0) at s)
       | cuts.Token x ↦ Ok (x.len, accepted x at z s)
       | cuts.Outside ↦ Err (Outside at)
@@ -144,19 +144,19 @@ abbrev pub IsQuoted : Option Opened → Type 0
 IsQuoted None = Unit {0}
 IsQuoted (Some o) = o.quote < 128
 
--- behind a string, which is an operand's end, or behind its `#{`
+-- after a string, which is an operand's end, or after its `#{`
 abbrev pub left : Bool → State → State
 left is_end s =
     let b : Before = if is_end then before.Operand else before.Plain in
     record s { string = None; look = record { before = b; is_blank = false; is_fresh = false }; last = b; keeps = true }
 
--- Behind a piece that ends by the quote: the string must not be touched by one `:`.
+-- After a piece that ends by the quote: the string must not be touched by one `:`.
 abbrev pub quoted : Opened → ℕ → ℕ → List ℕ → State → Result (ℕ × State) LexEnd
 quoted o at n z s =
-    if is_touched (behind (n + 1) z) then Err (Outside o.opening)
+    if is_touched (after (n + 1) z) then Err (Outside o.opening)
     else Ok (n + 1, left true (pushed (kind.Text (take n z)) o.from (at + n + 1) s))
 
--- behind a piece that ends by `#{`
+-- after a piece that ends by `#{`
 abbrev pub interpolated : Opened → ℕ → ℕ → List ℕ → State → Result (ℕ × State) LexEnd
 interpolated o at n z s =
     let both = pushed kind.Interpolation (at + n) (at + n + 2) (pushed (kind.Text (take n z)) o.from (at + n) s) in

@@ -1,12 +1,12 @@
 -- Numbers.
 use Rattle.std.specs.Prelude.{ℕ, ◌+◌, ◌-◌, ◌*◌, ◌^◌, Bool, true, false, not, ◌||◌, ◌&&◌, ◌==◌, nat_lt, if◌then◌else◌, List, [], ◌∷◌, length, take, slice_index, Option, Some, None}
 use Rattle.std.specs.Char.{is_ascii_digit, is_ascii_lowercase, is_ascii_uppercase}
-use Rattle.rb_lex.specs.Chars.{is_in, is_letter, behind}
+use Rattle.rb_lex.specs.Chars.{is_in, is_letter, after}
 use Rattle.rb_lex.specs.declared.chars.Set.{Set}
 use Rattle.rb_lex.specs.declared.chars.Set.TheVariants as set
 use Rattle.rb_lex.specs.declared.number.Spelling.{Spelling}
 
--- how far digits go on behind a digit: one `_` may stand between two
+-- how far digits go on after a digit: one `_` may stand between two
 abbrev pub more_digits : Set → List ℕ → ℕ
 more_digits s [] = 0
 more_digits s (b ∷ z) = if is_in s b || (b == 95 && is_in s (slice_index z 0)) then 1 + more_digits s z else 0
@@ -23,18 +23,18 @@ abbrev pub exponent_end : List ℕ → ℕ → ℕ
 exponent_end z at =
     let next = slice_index z (at + 1) in
     if not (slice_index z at == 101) then at
-    else (if is_in set.Decimal next then at + 1 + digits_len set.Decimal (behind (at + 1) z)
-    else (if (next == 43 || next == 45) && is_in set.Decimal (slice_index z (at + 2)) then at + 2 + digits_len set.Decimal (behind (at + 2) z)
+    else (if is_in set.Decimal next then at + 1 + digits_len set.Decimal (after (at + 1) z)
+    else (if (next == 43 || next == 45) && is_in set.Decimal (slice_index z (at + 2)) then at + 2 + digits_len set.Decimal (after (at + 2) z)
     else at))
 
 -- the end of the fraction at a place, `.`, digits and perhaps an exponent, or 0 where there is none
 abbrev pub fraction_end : List ℕ → ℕ → ℕ
 fraction_end z at =
-    if slice_index z at == 46 && is_in set.Decimal (slice_index z (at + 1)) then exponent_end z (at + 1 + digits_len set.Decimal (behind (at + 1) z)) else 0
+    if slice_index z at == 46 && is_in set.Decimal (slice_index z (at + 1)) then exponent_end z (at + 1 + digits_len set.Decimal (after (at + 1) z)) else 0
 
 -- the number that begins with `0x`, `0b` or `0o`
 abbrev pub based : Set → List ℕ → Spelling
-based s z = record { len = 2 + digits_len s (behind 2 z); is_float = false; head = 2; digits = s }
+based s z = record { len = 2 + digits_len s (after 2 z); is_float = false; head = 2; digits = s }
 
 -- the number that begins with its digits: with a fraction it is a float, else a whole number, which is `0` alone where it
 -- begins with 0
@@ -81,9 +81,9 @@ fits value s (b ∷ z) = if b == 95 then fits value s z else (elim (with_digit v
 
 -- the digits of a number, which `_` may part
 abbrev pub digits_in : Spelling → List ℕ → List ℕ
-digits_in number z = behind number.head (take number.len z)
+digits_in number z = after number.head (take number.len z)
 
--- whether a number is outside the profile: it begins with 0 and a digit, a letter stands directly behind it, or it is a whole
+-- whether a number is outside the profile: it begins with 0 and a digit, a letter stands directly after it, or it is a whole
 -- number of over 128 bits
 unfoldable pub is_foreign : Spelling → List ℕ → Bool
 is_foreign number z =

@@ -83,7 +83,7 @@ compound b next last =
     else (if b == 38 then ampersand next last
     else (if b == 124 then pipe next last else single b)))))
 
--- the operator that begins with these bytes; behind the text's end they are 0
+-- the operator that begins with these bytes; after the text's end they are 0
 unfoldable pub operator : ℕ → ℕ → ℕ → Sign
 operator b next last =
     if b == 46 then dot next

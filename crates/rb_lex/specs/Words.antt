@@ -62,7 +62,7 @@ word_of word =
     else (if n == 12 then lookup OF_TWELVE word
     else Free))))))
 
--- How long the identifier is with which the text begins: letters, digits and `_`, with one `?` or `!` directly behind if the next
+-- How long the identifier is with which the text begins: letters, digits and `_`, with one `?` or `!` directly after if the next
 -- character is not `=`.
 abbrev pub identifier_len : List ℕ → ℕ
 identifier_len z =

@@ -47,7 +47,7 @@ pub fn is_letter(b: u8) -> bool
     b.is_ascii_alphabetic()
 }
 
-/// The byte at a place, and 0 behind the end.
+/// The byte at a place, and 0 after the end.
 pub fn byte(z: &[u8], at: usize) -> u8
     ensures value { result ≡ slice_index z.now at }
     ensures within { result ≢ 0 → at < length z.now }
@@ -109,8 +109,8 @@ pub fn line_len(z: &[u8]) -> usize
 }
 
 /// The text from a place on, or its end where it is not that long.
-pub fn behind(z: &[u8], at: usize) -> &[u8]
-    ensures { result.now ≡ spec.behind at z.now }
+pub fn after(z: &[u8], at: usize) -> &[u8]
+    ensures { result.now ≡ spec.after at z.now }
 {
     if at <= z.len() { &z[at..] } else { &[] }
 }

@@ -5,7 +5,7 @@ ghost use Rattle.rb_lex.specs.Chars as chars;
 ghost use Rattle.rb_lex.specs.Cuts as spec;
 
 use crate::chars::{
-    Set, begins_name, behind, blank_len, byte, is_in, is_spaced, is_upper, line_len, run_len,
+    Set, after, begins_name, blank_len, byte, is_in, is_spaced, is_upper, line_len, run_len,
 };
 use crate::number::{is_foreign, spelling_of};
 use crate::operator::{Ahead, Sign, method_name, operator};
@@ -35,7 +35,7 @@ pub enum Before {
     Opener,
 }
 
-/// What stands before a place: the token, whether a blank stands behind it, and whether a line starts at the place.
+/// What stands before a place: the token, whether a blank stands after it, and whether a line starts at the place.
 #[derive(Clone, Copy)]
 pub struct Look {
     pub before: Before,
@@ -43,7 +43,7 @@ pub struct Look {
     pub is_fresh: bool,
 }
 
-/// A token at a place: its shape, its length in bytes, what it says about the next one, and whether a line's end behind it is a
+/// A token at a place: its shape, its length in bytes, what it says about the next one, and whether a line's end after it is a
 /// separator.
 #[derive(Clone, Copy)]
 pub struct Lexeme {
@@ -56,7 +56,7 @@ pub struct Lexeme {
 /// What begins at a place.
 #[derive(Clone, Copy)]
 pub enum Cut {
-    /// Blanks or a comment, and whether a line starts behind them.
+    /// Blanks or a comment, and whether a line starts after them.
     Blank { len: usize, is_fresh: bool },
     /// A line's end.
     Line,
@@ -87,8 +87,8 @@ pub fn names_method(before: Before) -> bool
     }
 }
 
-fn is_behind_dot(before: Before) -> bool
-    ensures { result ≡ spec.is_behind_dot before }
+fn is_after_dot(before: Before) -> bool
+    ensures { result ≡ spec.is_after_dot before }
 {
     match before {
         Before::Dot | Before::DefDot => true,
@@ -136,15 +136,15 @@ fn token(shape: Shape, len: usize, before: Before, keeps: bool) -> Cut
     }
 }
 
-/// What a keyword's spelling is behind a token.
+/// What a keyword's spelling is after a token.
 fn keyword(before: Before, shape: Shape, len: usize) -> Cut
     ensures { result ≡ spec.keyword before shape len }
 {
-    token(shape, len, behind_keyword(before, shape), true)
+    token(shape, len, after_keyword(before, shape), true)
 }
 
-fn behind_keyword(before: Before, shape: Shape) -> Before
-    ensures { result ≡ spec.behind_keyword before shape }
+fn after_keyword(before: Before, shape: Shape) -> Before
+    ensures { result ≡ spec.after_keyword before shape }
 {
     if shape.is(Shape::Yield) || shape.is(Shape::Super) {
         Before::Name
@@ -153,7 +153,7 @@ fn behind_keyword(before: Before, shape: Shape) -> Before
     } else if shape.is(Shape::Do) {
         Before::Opener
     } else if shape.is(Shape::SelfWord) {
-        behind_self(before)
+        after_self(before)
     } else if is_value(shape) {
         Before::Operand
     } else {
@@ -161,8 +161,8 @@ fn behind_keyword(before: Before, shape: Shape) -> Before
     }
 }
 
-fn behind_self(before: Before) -> Before
-    ensures { result ≡ spec.behind_self before }
+fn after_self(before: Before) -> Before
+    ensures { result ≡ spec.after_self before }
 {
     match before {
         Before::Def => Before::DefSelf,
@@ -193,7 +193,7 @@ fn name(before: Before, z: &[u8]) -> Cut
     let end = identifier_len(z);
     if is_labelled(z, end) {
         label(end)
-    } else if is_behind_dot(before) {
+    } else if is_after_dot(before) {
         token(Shape::Identifier, end, Before::Name, true)
     } else {
         match word_of(&z[..end]) {
@@ -214,7 +214,7 @@ fn constant(before: Before, z: &[u8]) -> Cut
     let end = run_len(Set::Word, z);
     if is_labelled(z, end) {
         label(end)
-    } else if is_behind_dot(before) {
+    } else if is_after_dot(before) {
         token(Shape::Constant, end, Before::Constant, true)
     } else {
         match word_of(&z[..end]) {
@@ -255,7 +255,7 @@ fn variable(z: &[u8]) -> Cut
     } else if begins_name(next) {
         token(
             Shape::InstanceVariable,
-            1 + run_len(Set::Word, behind(z, 1)),
+            1 + run_len(Set::Word, after(z, 1)),
             Before::Operand,
             true,
         )
@@ -271,7 +271,7 @@ fn colon(look: Look, z: &[u8]) -> Cut
     ensures value { result ≡ spec.colon look z.now }
     ensures within { spec.IsWithin result (length z.now) }
 {
-    let rest = behind(z, 1);
+    let rest = after(z, 1);
     let len = symbol_len(rest);
     if len != 0 {
         token(Shape::Symbol, 1 + len, Before::Operand, true)
@@ -328,8 +328,8 @@ fn is_bad(look: Look, shape: Shape, rest: &[u8]) -> bool
         && (shape.is(Shape::OpenParen) || (is_ambiguous(shape) && !is_spaced(rest)))
 }
 
-pub fn behind_operator(before: Before, shape: Shape) -> Before
-    ensures { result ≡ spec.behind_operator before shape }
+pub fn after_operator(before: Before, shape: Shape) -> Before
+    ensures { result ≡ spec.after_operator before shape }
 {
     if is_closing(shape) {
         Before::Operand
@@ -338,14 +338,14 @@ pub fn behind_operator(before: Before, shape: Shape) -> Before
     } else if shape.is(Shape::SafeDot) {
         Before::Dot
     } else if shape.is(Shape::Dot) {
-        behind_dot(before)
+        after_dot(before)
     } else {
         Before::Plain
     }
 }
 
-fn behind_dot(before: Before) -> Before
-    ensures { result ≡ spec.behind_dot before }
+fn after_dot(before: Before) -> Before
+    ensures { result ≡ spec.after_dot before }
 {
     match before {
         Before::DefSelf => Before::DefDot,
@@ -372,7 +372,7 @@ fn judged(look: Look, shape: Shape, len: usize, rest: &[u8]) -> Cut
         token(
             shape,
             len,
-            behind_operator(look.before, shape),
+            after_operator(look.before, shape),
             is_closing(shape) || names_method(look.before),
         )
     }
@@ -404,7 +404,7 @@ fn sign(look: Look, z: &[u8]) -> Cut
     match sign_at(look.before, z) {
         Sign::Nothing => Cut::Bad,
         Sign::Foreign => Cut::Outside,
-        Sign::Operator { shape, len } => judged(look, shape, len, behind(z, len)),
+        Sign::Operator { shape, len } => judged(look, shape, len, after(z, len)),
     }
 }
 
@@ -418,7 +418,7 @@ fn ends_line(z: &[u8]) -> bool
 fn ends_program(z: &[u8]) -> bool
     ensures { result ≡ spec.ends_program z.now }
 {
-    z.starts_with(b"=begin") || (z.starts_with(b"__END__") && ends_line(behind(z, 7)))
+    z.starts_with(b"=begin") || (z.starts_with(b"__END__") && ends_line(after(z, 7)))
 }
 
 fn blanks_len(z: &[u8]) -> usize

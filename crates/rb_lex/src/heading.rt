@@ -5,7 +5,7 @@ ghost use Rattle.std.specs.List.{list_all};
 ghost use Rattle.rb_lex.specs.Chars as chars;
 ghost use Rattle.rb_lex.specs.Levels as spec;
 
-use crate::chars::{Set, behind, blank_len, byte, is_in, line_len, run_len};
+use crate::chars::{Set, after, blank_len, byte, is_in, line_len, run_len};
 use srb_terms::Level;
 
 /// The level that a word names.
@@ -27,10 +27,10 @@ fn level_named(word: &[u8]) -> Option<Level>
     }
 }
 
-fn behind_blanks(text: &[u8]) -> &[u8]
-    ensures { result.now ≡ spec.behind_blanks text.now }
+fn after_blanks(text: &[u8]) -> &[u8]
+    ensures { result.now ≡ spec.after_blanks text.now }
 {
-    behind(text, run_len(Set::Blank, text))
+    after(text, run_len(Set::Blank, text))
 }
 
 /// How many bytes stand before the first blank, or in all where there is none.
@@ -50,9 +50,9 @@ fn word_len(text: &[u8]) -> usize
 fn level_alone(text: &[u8]) -> Option<Level>
     ensures { result ≡ spec.level_alone text.now }
 {
-    let word = behind_blanks(text);
+    let word = after_blanks(text);
     let end = word_len(word);
-    if behind_blanks(&word[end..]).is_empty() {
+    if after_blanks(&word[end..]).is_empty() {
         level_named(&word[..end])
     } else {
         None
@@ -64,9 +64,9 @@ fn level_alone(text: &[u8]) -> Option<Level>
 fn level_in(comment: &[u8]) -> Option<Level>
     ensures { result ≡ spec.level_in comment.now }
 {
-    let text = behind_blanks(comment);
+    let text = after_blanks(comment);
     if text.starts_with(b"typed:") {
-        level_alone(behind(text, 6))
+        level_alone(after(text, 6))
     } else {
         None
     }
@@ -120,7 +120,7 @@ pub fn level_of(text: &[u8]) -> Level
     let mut rest = text;
     while !rest.is_empty() {
         match heading_of(rest) {
-            Heading::Passed { len } => rest = behind(rest, len),
+            Heading::Passed { len } => rest = after(rest, len),
             Heading::Given { level } => return level,
             Heading::Other => return Level::False,
         }

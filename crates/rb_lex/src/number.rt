@@ -4,7 +4,7 @@ ghost use Rattle.std.specs.Prelude.{◌≡◌, ◌≢◌, ◌<◌, ◌≤◌, �
 ghost use Rattle.rb_lex.specs.Chars as chars;
 ghost use Rattle.rb_lex.specs.Numbers as spec;
 
-use crate::chars::{Set, behind, byte, is_in, is_letter};
+use crate::chars::{Set, after, byte, is_in, is_letter};
 
 /// The spelling of a number: its length, whether it has a fraction, how many bytes stand before its digits, and what its digits
 /// are.
@@ -62,7 +62,7 @@ fn fraction_end(z: &[u8], at: usize) -> usize
     ensures within { result ≤ length z.now }
 {
     if byte(z, at) == b'.' && is_in(Set::Decimal, byte(z, at + 1)) {
-        let end = at + 1 + digits_len(Set::Decimal, behind(z, at + 1));
+        let end = at + 1 + digits_len(Set::Decimal, after(z, at + 1));
         exponent_end(z, end)
     } else {
         0
@@ -80,9 +80,9 @@ fn exponent_end(z: &[u8], at: usize) -> usize
     if byte(z, at) != b'e' {
         at
     } else if is_in(Set::Decimal, next) {
-        at + 1 + digits_len(Set::Decimal, behind(z, at + 1))
+        at + 1 + digits_len(Set::Decimal, after(z, at + 1))
     } else if (next == b'+' || next == b'-') && is_in(Set::Decimal, byte(z, at + 2)) {
-        at + 2 + digits_len(Set::Decimal, behind(z, at + 2))
+        at + 2 + digits_len(Set::Decimal, after(z, at + 2))
     } else {
         at
     }
@@ -95,7 +95,7 @@ fn based(digits: Set, z: &[u8]) -> Spelling
     ensures within { (0 < result.len) × (result.len ≤ length z.now) }
 {
     Spelling {
-        len: 2 + digits_len(digits, behind(z, 2)),
+        len: 2 + digits_len(digits, after(z, 2)),
         is_float: false,
         head: 2,
         digits,
@@ -210,7 +210,7 @@ fn fits(mut value: u128, digits: Set, mut z: &[u8]) -> bool
     true
 }
 
-/// Whether a number is none of the profile: it begins with 0 and a digit, a letter stands behind it, or it has over 128 bits.
+/// Whether a number is none of the profile: it begins with 0 and a digit, a letter stands after it, or it has over 128 bits.
 #[tactic(auto, unfolding(crate::specs::Numbers::is_foreign))]
 pub fn is_foreign(number: Spelling, z: &[u8]) -> bool
     requires { number.len ≤ length z.now }
@@ -226,5 +226,5 @@ fn digits_in(number: Spelling, z: &[u8]) -> &[u8]
     requires { number.len ≤ length z.now }
     ensures { result.now ≡ spec.digits_in number z.now }
 {
-    behind(&z[..number.len], number.head)
+    after(&z[..number.len], number.head)
 }

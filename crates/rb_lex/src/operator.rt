@@ -6,7 +6,7 @@ ghost use Rattle.rb_lex.specs.Operators as spec;
 use crate::chars::byte;
 use rb_tree::token::Shape;
 
-/// The two bytes behind a place; behind the text's end they are 0.
+/// The two bytes after a place; after the text's end they are 0.
 #[derive(Clone, Copy)]
 pub struct Ahead {
     pub next: u8,

@@ -25,7 +25,7 @@ pub struct Piece {
     pub len: usize,
 }
 
-/// What the byte ends that stands before `next` in a string with this quote, and behind no backslash.
+/// What the byte ends that stands before `next` in a string with this quote, and after no backslash.
 fn stop_at(quote: u8, b: u8, next: u8) -> Option<Stop>
     ensures value { result ≡ spec.stop_at quote b next }
     ensures within { spec.NeedsNext result next }

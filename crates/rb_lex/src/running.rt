@@ -6,7 +6,7 @@ ghost use Rattle.rb_lex.specs.Lexed.{Gives, lexed};
 ghost use Rattle.srb_text.specs.Limits.{MOST_BYTES};
 
 use crate::LexEnd;
-use crate::chars::behind;
+use crate::chars::after;
 use crate::state::State;
 use rb_tree::token::Token;
 use std::alloc::Global;
@@ -24,7 +24,7 @@ pub fn lex_bytes(alloc: Global, text: &[u8]) -> Result<Vec<Token>, LexEnd>
         match state.step(alloc, at, rest) {
             Ok(len) => {
                 at += len as u32;
-                rest = behind(rest, len);
+                rest = after(rest, len);
             }
             Err(end) => return Err(end),
         }

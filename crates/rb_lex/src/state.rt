@@ -9,8 +9,8 @@ ghost use Rattle.rb_lex.specs.Lexed as spec;
 ghost use Rattle.rb_lex.specs.Lexed.{Gives, IsNoMemory};
 
 use crate::LexEnd;
-use crate::chars::{behind, byte, is_letter};
-use crate::cut::{Before, Cut, Lexeme, Look, behind_operator, cut_of, is_opener, names_method};
+use crate::chars::{after, byte, is_letter};
+use crate::cut::{Before, Cut, Lexeme, Look, after_operator, cut_of, is_opener, names_method};
 use crate::piece::{Stop, is_touched, piece_of};
 use rb_tree::token::{Shape, Token, TokenKind};
 use srb_terms::{Items, NoMemory, Span, Words};
@@ -29,7 +29,7 @@ pub struct Opened {
 pub struct State {
     /// The tokens before the place.
     pub tokens: Items<Token>,
-    /// How many of them stand up to and with the last that is no line's end behind it.
+    /// How many of them stand up to and with the last that is no line's end after it.
     pub mark: usize,
     /// What is open, the innermost last: a `{`, or an interpolation, with the place where its string begins.
     pub nesting: Items<Option<u32>>,
@@ -75,7 +75,7 @@ fn words_of(shape: Shape, len: usize, z: &[u8]) -> &[u8]
     ensures { result.now ≡ spec.words_of shape len z.now }
 {
     if is_sigiled(shape) {
-        behind(&z[..len], 1)
+        after(&z[..len], 1)
     } else if shape.is(Shape::Label) {
         &z[..len - 1]
     } else {
@@ -130,13 +130,13 @@ fn continues(shape: Shape, rest: &[u8]) -> bool
     shape.is(Shape::SafeDot) || (shape.is(Shape::Dot) && is_letter(byte(rest, 0)))
 }
 
-/// The token as it stands behind the last token, where it goes on with the line before.
+/// The token as it stands after the last token, where it goes on with the line before.
 fn continued(goes: bool, last: Before, lexeme: Lexeme) -> Lexeme
     ensures { result ≡ spec.continued goes last lexeme }
 {
     if goes {
         Lexeme {
-            before: behind_operator(last, lexeme.shape),
+            before: after_operator(last, lexeme.shape),
             keeps: names_method(last),
             ..lexeme
         }
@@ -176,7 +176,7 @@ impl State {
 
     fn pass_line(&mut self, at: u32) -> Result<(), LexEnd>
         requires { at < 2 ^ 31 }
-        ensures { Gives (λ _. self.new) result (Ok (spec.behind_line at self.old)) }
+        ensures { Gives (λ _. self.new) result (Ok (spec.after_line at self.old)) }
     {
         if self.keeps {
             let span = Span {
@@ -206,7 +206,7 @@ impl State {
         ensures { self.new ≡ spec.closed end self.old }
     {
         let last = self.nesting.len().saturating_sub(1);
-        self.string = string_behind(end, self.nesting.get(last));
+        self.string = string_after(end, self.nesting.get(last));
         self.nesting.truncate(last);
     }
 
@@ -247,7 +247,7 @@ impl State {
         ensures { Gives (λ _. self.new) result (Ok (spec.accepted lexeme at z.now self.old)) }
     {
         let end = at + lexeme.len as u32;
-        let goes = continues(lexeme.shape, behind(z, lexeme.len));
+        let goes = continues(lexeme.shape, after(z, lexeme.len));
         let entering = continued(goes, self.last, lexeme);
         self.join(goes);
         let kind = kind_of(alloc, lexeme.shape, words_of(lexeme.shape, lexeme.len, z))?;
@@ -336,7 +336,7 @@ impl State {
         ensures value { Gives (λ n. (n, self.new)) result (spec.quoted opened at len z.now self.old) }
         ensures within { IfOk result (λ n. (0 < n) × (n ≤ length z.now)) }
     {
-        if is_touched(behind(z, len + 1)) {
+        if is_touched(after(z, len + 1)) {
             return Err(LexEnd::Outside { at: opened.opening });
         }
         let end = at + len as u32 + 1;
@@ -394,7 +394,7 @@ impl State {
         }
     }
 
-    /// Takes one step from the place `at`, behind which `z` stands, and answers how many bytes it takes.
+    /// Takes one step from the place `at`, after which `z` stands, and answers how many bytes it takes.
     #[tactic(auto, unfolding(crate::specs::Lexed::step))]
     pub fn step(&mut self, alloc: Global, at: u32, z: &[u8]) -> Result<usize, LexEnd>
         requires some { 0 < length z.now }
@@ -433,8 +433,8 @@ impl State {
     }
 }
 
-fn string_behind(end: u32, last: Option<&Option<u32>>) -> Option<Opened>
-    ensures { result ≡ spec.string_behind end (option_copied last.entry) }
+fn string_after(end: u32, last: Option<&Option<u32>>) -> Option<Opened>
+    ensures { result ≡ spec.string_after end (option_copied last.entry) }
 {
     match last {
         Some(Some(opening)) => Some(Opened {

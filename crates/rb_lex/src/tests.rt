@@ -17,7 +17,7 @@ fn words_of(kind: &TokenKind) -> &str {
     }
 }
 
-// What `lex` answers: the shapes and words of the tokens, each with a `;` behind it, or the refusal.
+// What `lex` answers: the shapes and words of the tokens, each with a `;` after it, or the refusal.
 fn told(alloc: Global, source: &str) -> Result<String, Fail> {
     if source.len() > 1000 {
         return Err(Fail::from("long"));

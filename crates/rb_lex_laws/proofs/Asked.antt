@@ -8,7 +8,7 @@ use lib.Utf8.{encode}
 use Rattle.srb_terms.specs.declared.level.Level.{Level}
 use Rattle.srb_terms.specs.declared.level.Level.TheVariants.{Ignore, False, True, Strict, Strong}
 use Rattle.rb_lex.specs.Chars.{is_in, blank_len, line_len}
-use Rattle.rb_lex.specs.Levels.{level_named, behind_blanks, word_len, level_alone, level_in, heading_of, heading_of_comment, level_from, level_of}
+use Rattle.rb_lex.specs.Levels.{level_named, after_blanks, word_len, level_alone, level_in, heading_of, heading_of_comment, level_from, level_of}
 use Rattle.rb_lex.specs.declared.chars.Set.TheVariants as set
 use Rattle.rb_lex.specs.declared.heading.Heading.{Heading}
 use Rattle.rb_lex.specs.declared.heading.Heading.TheVariants.{Passed, Given, Other}
@@ -101,13 +101,13 @@ named-is word level h = by (bytes_eq word (codes "ignore")) refl (bytes_eq word 
     by false p false q false r false s true t = is Strong (at false false false false true p q r s t) t
     by false p false q false r false s false t = let f : Some level ≡ None = at false false false false false p q r s t in absurd (cc)
 
-behind-is : (z : List ℕ) → behind_blanks z ≡ (run-of set.Blank z).rest
-behind-is z = let m = run-of set.Blank z in ap (λ n. drop n z) m.len ∙ ap (λ y. drop (length m.run) y) (sym m.whole) ∙ drop-front m.run m.rest
+after-is : (z : List ℕ) → after_blanks z ≡ (run-of set.Blank z).rest
+after-is z = let m = run-of set.Blank z in ap (λ n. drop n z) m.len ∙ ap (λ y. drop (length m.run) y) (sym m.whole) ∙ drop-front m.run m.rest
 
-none-left : (z : List ℕ) → (length (behind_blanks z) == 0) ≡ true → AreBlank z
+none-left : (z : List ℕ) → (length (after_blanks z) == 0) ≡ true → AreBlank z
 none-left z h =
     let m = run-of set.Blank z in
-    let size : length m.rest ≡ 0 = ap length (sym (behind-is z)) ∙ eq-is (length (behind_blanks z)) 0 h in
+    let size : length m.rest ≡ 0 = ap length (sym (after-is z)) ∙ eq-is (length (after_blanks z)) 0 h in
     let whole : m.run ≡ z = sym (no-rest m.run) ∙ ap (λ r. m.run ++ r) (sym (empty m.rest size)) ∙ m.whole in
     subst AreBlank whole m.all
   where
@@ -116,41 +116,41 @@ none-left z h =
     empty (c ∷ r) e = absurd (omega arith)
 
 alone-gives : (t : List ℕ) (level : Level) → level_alone t ≡ Some level → (between : List ℕ) × (after : List ℕ) × (t ≡ between ++ (word_of_level level ++ after)) × AreBlank between × AreBlank after
-alone-gives t level h = by (length (behind_blanks (drop (word_len (behind_blanks t)) (behind_blanks t))) == 0) refl
+alone-gives t level h = by (length (after_blanks (drop (word_len (after_blanks t)) (after_blanks t))) == 0) refl
   where
-    by : (s : Bool) → (length (behind_blanks (drop (word_len (behind_blanks t)) (behind_blanks t))) == 0) ≡ s → (between : List ℕ) × (after : List ℕ) × (t ≡ between ++ (word_of_level level ++ after)) × AreBlank between × AreBlank after
+    by : (s : Bool) → (length (after_blanks (drop (word_len (after_blanks t)) (after_blanks t))) == 0) ≡ s → (between : List ℕ) × (after : List ℕ) × (t ≡ between ++ (word_of_level level ++ after)) × AreBlank between × AreBlank after
     by true e =
         let m = run-of set.Blank t in
-        let n = word_len (behind_blanks t) in
-        let named : level_named (take n (behind_blanks t)) ≡ Some level = sym (if-true (length (behind_blanks (drop n (behind_blanks t))) == 0) (level_named (take n (behind_blanks t))) None e) ∙ h in (
+        let n = word_len (after_blanks t) in
+        let named : level_named (take n (after_blanks t)) ≡ Some level = sym (if-true (length (after_blanks (drop n (after_blanks t))) == 0) (level_named (take n (after_blanks t))) None e) ∙ h in (
           m.run,
-          drop n (behind_blanks t),
-          sym m.whole ∙ ap (λ y. m.run ++ y) (sym (behind-is t) ∙ sym (parts n (behind_blanks t)) ∙ ap (λ v. v ++ drop n (behind_blanks t)) (named-is (take n (behind_blanks t)) level named)),
+          drop n (after_blanks t),
+          sym m.whole ∙ ap (λ y. m.run ++ y) (sym (after-is t) ∙ sym (parts n (after_blanks t)) ∙ ap (λ v. v ++ drop n (after_blanks t)) (named-is (take n (after_blanks t)) level named)),
           m.all,
-          none-left (drop n (behind_blanks t)) e,
+          none-left (drop n (after_blanks t)) e,
         )
     by false e =
-        let f : None ≡ Some level = sym (if-false (length (behind_blanks (drop (word_len (behind_blanks t)) (behind_blanks t))) == 0) (level_named (take (word_len (behind_blanks t)) (behind_blanks t))) None e) ∙ h in absurd (cc)
+        let f : None ≡ Some level = sym (if-false (length (after_blanks (drop (word_len (after_blanks t)) (after_blanks t))) == 0) (level_named (take (word_len (after_blanks t)) (after_blanks t))) None e) ∙ h in absurd (cc)
 
 found-gives : (text : List ℕ) (level : Level) → level_in text ≡ Some level → Gives text level
 unfolding level_in
-found-gives text level h = by (starts_with nat_eq (behind_blanks text) (codes "typed:")) refl
+found-gives text level h = by (starts_with nat_eq (after_blanks text) (codes "typed:")) refl
   where
-    by : (s : Bool) → starts_with nat_eq (behind_blanks text) (codes "typed:") ≡ s → Gives text level
+    by : (s : Bool) → starts_with nat_eq (after_blanks text) (codes "typed:") ≡ s → Gives text level
     by true e =
         let m = run-of set.Blank text in
-        let alone : level_alone (drop 6 (behind_blanks text)) ≡ Some level = sym (if-true (starts_with nat_eq (behind_blanks text) (codes "typed:")) (level_alone (drop 6 (behind_blanks text))) None e) ∙ h in
-        let p = alone-gives (drop 6 (behind_blanks text)) level alone in
+        let alone : level_alone (drop 6 (after_blanks text)) ≡ Some level = sym (if-true (starts_with nat_eq (after_blanks text) (codes "typed:")) (level_alone (drop 6 (after_blanks text))) None e) ∙ h in
+        let p = alone-gives (drop 6 (after_blanks text)) level alone in
         record {
           before = m.run;
           between = p.0;
           after = p.1;
-          whole = sym m.whole ∙ ap (λ y. m.run ++ y) (sym (behind-is text) ∙ sym (starts-parts (behind_blanks text) (codes "typed:") e) ∙ ap (λ y. codes "typed:" ++ y) p.2);
+          whole = sym m.whole ∙ ap (λ y. m.run ++ y) (sym (after-is text) ∙ sym (starts-parts (after_blanks text) (codes "typed:") e) ∙ ap (λ y. codes "typed:" ++ y) p.2);
           blank_before = m.all;
           blank_between = p.3;
           blank_after = p.4;
         }
-    by false e = let f : None ≡ Some level = sym (if-false (starts_with nat_eq (behind_blanks text) (codes "typed:")) (level_alone (drop 6 (behind_blanks text))) None e) ∙ h in absurd (cc)
+    by false e = let f : None ≡ Some level = sym (if-false (starts_with nat_eq (after_blanks text) (codes "typed:")) (level_alone (drop 6 (after_blanks text))) None e) ∙ h in absurd (cc)
 
 -- ---- lines of bytes
 

@@ -9,8 +9,8 @@ use Rattle.rb_tree.specs.declared.token.TokenKind.{TokenKind}
 use Rattle.rb_tree.specs.declared.token.TokenKind.TheVariants as kind
 use Rattle.rb_tree.specs.declared.token.Shape.{Shape}
 use Rattle.rb_tree.specs.declared.token.Shape.TheVariants as shape
-use Rattle.rb_lex.specs.Cuts.{names_method, is_opener as opens, behind_operator}
-use Rattle.rb_lex.specs.Lexed.{token_at, pushed, behind_line, string_behind, closed, nested, entered, blanked, opened, is_inside, START}
+use Rattle.rb_lex.specs.Cuts.{names_method, is_opener as opens, after_operator}
+use Rattle.rb_lex.specs.Lexed.{token_at, pushed, after_line, string_after, closed, nested, entered, blanked, opened, is_inside, START}
 use Rattle.rb_lex.specs.declared.cut.Lexeme.{Lexeme}
 use Rattle.rb_lex.specs.declared.state.Opened.{Opened}
 use Rattle.rb_lex.specs.declared.state.State.{State}
@@ -19,7 +19,7 @@ use Rattle.rb_rules.specs.Before.{frames, has_bars, Keeps}
 use Rattle.rb_rules.specs.Lexes.{Place, past_of, FIRST, passed, Continues, OpenString}
 use Rattle.rb_lex_laws.proofs.Lists.{split, no-both, false-of}
 use Rattle.rb_lex_laws.proofs.Blanks.{goes_on, continues-on, continues-is}
-use Rattle.rb_lex_laws.proofs.Past.{before_of, keeps_of, keeps_behind, keeps-asked, opens-asked}
+use Rattle.rb_lex_laws.proofs.Past.{before_of, keeps_of, keeps_after, keeps-asked, opens-asked}
 use Rattle.rb_lex_laws.proofs.Shown.{Says}
 use Rattle.rb_lex_laws.proofs.Strings.{IsQuote}
 
@@ -32,8 +32,8 @@ pub data Stack : List (Option ℕ) → List Bool → List ℕ → Type 0 where
 
 -- what is open without the innermost
 pub data Popped (n : List (Option ℕ)) (f : List Bool) (o : List ℕ) : Type 0 where
-  Plain : Stack (take (length n - 1) n) (drop 1 f) o → ((end : ℕ) → string_behind end (slice_get n (length n - 1)) ≡ None) → (take 1 f ≡ true ∷ [] → ⊥) → Popped n f o
-  Return : (a : ℕ) (p : List ℕ) → o ≡ a ∷ p → take 1 f ≡ true ∷ [] → Stack (take (length n - 1) n) (drop 1 f) p → ((end : ℕ) → string_behind end (slice_get n (length n - 1)) ≡ Some (record { quote = 34; opening = a; from = end })) → Popped n f o
+  Plain : Stack (take (length n - 1) n) (drop 1 f) o → ((end : ℕ) → string_after end (slice_get n (length n - 1)) ≡ None) → (take 1 f ≡ true ∷ [] → ⊥) → Popped n f o
+  Return : (a : ℕ) (p : List ℕ) → o ≡ a ∷ p → take 1 f ≡ true ∷ [] → Stack (take (length n - 1) n) (drop 1 f) p → ((end : ℕ) → string_after end (slice_get n (length n - 1)) ≡ Some (record { quote = 34; opening = a; from = end })) → Popped n f o
 
 last-len : {A : Type 0} (n : List A) (x : A) → length (n ++ x ∷ []) - 1 ≡ length n
 last-len n x = let e = length-append n (x ∷ []) in omega arith
@@ -49,9 +49,9 @@ last-take (y ∷ n) x = ap (λ z. y ∷ z) (last-take n x)
 pub popped : (n : List (Option ℕ)) (f : List Bool) (o : List ℕ) → Stack n f o → Popped n f o
 popped _ _ _ Stack.Empty = Popped.Plain Stack.Empty (λ end. refl) (λ e. absurd (cc))
 popped _ _ _ (Stack.Brace n f o st) =
-    Popped.Plain (subst (λ m. Stack m f o) (sym (ap (λ k. take k (n ++ None ∷ [])) (last-len n None) ∙ last-take n None)) st) (λ end. ap (string_behind end) (ap (slice_get (n ++ None ∷ [])) (last-len n None) ∙ last-get n None)) (λ e. absurd (cc))
+    Popped.Plain (subst (λ m. Stack m f o) (sym (ap (λ k. take k (n ++ None ∷ [])) (last-len n None) ∙ last-take n None)) st) (λ end. ap (string_after end) (ap (slice_get (n ++ None ∷ [])) (last-len n None) ∙ last-get n None)) (λ e. absurd (cc))
 popped _ _ _ (Stack.Interpolation n f o a st) =
-    Popped.Return a o refl refl (subst (λ m. Stack m f o) (sym (ap (λ k. take k (n ++ Some a ∷ [])) (last-len n (Some a)) ∙ last-take n (Some a))) st) (λ end. ap (string_behind end) (ap (slice_get (n ++ Some a ∷ [])) (last-len n (Some a)) ∙ last-get n (Some a)))
+    Popped.Return a o refl refl (subst (λ m. Stack m f o) (sym (ap (λ k. take k (n ++ Some a ∷ [])) (last-len n (Some a)) ∙ last-take n (Some a))) st) (λ end. ap (string_after end) (ap (slice_get (n ++ Some a ∷ [])) (last-len n (Some a)) ∙ last-get n (Some a)))
 
 -- an interpolation is open
 pub inside-open : (n : List (Option ℕ)) (f : List Bool) (o : List ℕ) → Stack n f o → is_inside n ≡ true → Holds true f
@@ -81,8 +81,8 @@ pub record InStep (p : Place) (s : State) : Type 0 where
   pub before_is : s.look.before ≡ before_of (past_of p)
   pub keeps_is : s.keeps ≡ keeps_of (past_of p)
 
--- those before the place are those up to the state's mark: the line goes on, and line ends behind the mark are no separators
-pub record Behind (p : Place) (s : State) : Type 0 where
+-- those before the place are those up to the state's mark: the line goes on, and line ends after the mark are no separators
+pub record After (p : Place) (s : State) : Type 0 where
   pub tokens_are : take s.mark s.tokens ≡ p.tokens
   pub last_is : s.last ≡ before_of (past_of p)
 
@@ -103,7 +103,7 @@ pub record Matches (p : Place) (s : State) (z : List ℕ) : Type 0 where
   pub bars_is : s.has_bars ≡ has_bars (past_of p)
   pub mark_in : s.mark ≤ length s.tokens
   pub sync : p.string ≡ None → goes_on false z ≡ false → InStep p s
-  pub pend : p.string ≡ None → goes_on false z ≡ true → Behind p s
+  pub pend : p.string ≡ None → goes_on false z ≡ true → After p s
   pub inner : (o : OpenString) → p.string ≡ Some o → s.tokens ≡ p.tokens
 
 pub first-matches : (z : List ℕ) → Matches FIRST START z
@@ -144,7 +144,7 @@ past-push ts t =
     ap reverse (map-append f ts (t ∷ [])) ∙ reverse-append (map f ts) (shape_of t.kind ∷ [])
 
 -- a line's end that is no separator
-pub dropped-matches : (p : Place) (s : State) (rest : List ℕ) → Matches p s (10 ∷ rest) → p.string ≡ None → ((Keeps (past_of p) → ⊥) ⊎ Continues rest) → Matches (passed (10 ∷ []) true p) (behind_line p.at s) rest
+pub dropped-matches : (p : Place) (s : State) (rest : List ℕ) → Matches p s (10 ∷ rest) → p.string ≡ None → ((Keeps (past_of p) → ⊥) ⊎ Continues rest) → Matches (passed (10 ∷ []) true p) (after_line p.at s) rest
 dropped-matches p s rest m none why =
     split (λ t. Matches (passed (10 ∷ []) true p) t rest) s.keeps _ _
     (λ keeps. record {
@@ -180,7 +180,7 @@ dropped-matches p s rest m none why =
     kept k n g (inr c) = no-both (goes_on false rest) (continues-on rest c) g
 
 -- a line's end that is a separator
-pub kept-matches : (p : Place) (s : State) (rest : List ℕ) → Matches p s (10 ∷ rest) → p.string ≡ None → Keeps (past_of p) → (Continues rest → ⊥) → Matches (passed (10 ∷ []) true (record p { tokens = p.tokens ++ record { kind = kind.Separator; span = record { start = p.at; end = p.at + 1 } } ∷ [] })) (behind_line p.at s) rest
+pub kept-matches : (p : Place) (s : State) (rest : List ℕ) → Matches p s (10 ∷ rest) → p.string ≡ None → Keeps (past_of p) → (Continues rest → ⊥) → Matches (passed (10 ∷ []) true (record p { tokens = p.tokens ++ record { kind = kind.Separator; span = record { start = p.at; end = p.at + 1 } } ∷ [] })) (after_line p.at s) rest
 unfolding shape_of same_shape
 kept-matches p s rest m none keeps free =
     let stop : goes_on false rest ≡ false = false-of (goes_on false rest) (λ e. free (continues-is (length rest) rest (omega arith) e)) in
@@ -230,9 +230,9 @@ opened-matches p s quote rest m none q =
     stops (inl e) = ap (λ c. goes_on false (c ∷ rest)) e
     stops (inr e) = ap (λ c. goes_on false (c ∷ rest)) e
 
--- ---- behind a token
+-- ---- after a token
 
--- the state directly behind a token
+-- the state directly after a token
 pub record Fresh (past : List Shape) (tokens : List Token) (s : State) : Type 0 where
   pub tokens_are : s.tokens ≡ tokens
   pub mark_is : s.mark ≡ length s.tokens
@@ -258,7 +258,7 @@ fresh-matches p s z f blank start string quote stack =
       inner = λ o e. f.tokens_are;
     }
 
--- behind a token that the step pushes
+-- after a token that the step pushes
 pub entered-fresh : (p : Place) (s : State) (x : Lexeme) (k : TokenKind) (end : ℕ) → InStep p s → s.has_bars ≡ has_bars (past_of p) → Says (past_of p) x.shape x → Fresh (x.shape ∷ past_of p) (p.tokens ++ token_at k p.at end ∷ []) (entered x (pushed k p.at end s))
 entered-fresh p s x k end i bars says =
     record {
@@ -266,35 +266,35 @@ entered-fresh p s x k end i bars says =
       mark_is = refl;
       before_is = says.before_is;
       last_is = says.before_is;
-      keeps_is = says.keeps_is s.has_bars ∙ ap (λ b. keeps_behind (names_method (before_of (past_of p))) b x.shape) bars;
+      keeps_is = says.keeps_is s.has_bars ∙ ap (λ b. keeps_after (names_method (before_of (past_of p))) b x.shape) bars;
       bars_is = ap (λ b. if same_shape x.shape shape.Pipe then not b && opens s.look.before else b) bars ∙ ap (λ b. if same_shape x.shape shape.Pipe then not (has_bars (past_of p)) && opens b else has_bars (past_of p)) i.before_is ∙ ap (λ b. if same_shape x.shape shape.Pipe then not (has_bars (past_of p)) && b else has_bars (past_of p)) (opens-asked (past_of p));
       blank_is = refl;
       fresh_is = refl;
     }
 
 -- a `.` or `&.` that goes on with the line before
-pub dot-fresh : (p : Place) (s : State) (x : Lexeme) (k : TokenKind) (end : ℕ) → Behind p s → s.has_bars ≡ has_bars (past_of p) → x.shape ≡ shape.Dot → Fresh (shape.Dot ∷ past_of p) (p.tokens ++ token_at k p.at end ∷ []) (entered (record x { before = behind_operator s.last x.shape; keeps = names_method s.last }) (pushed k p.at end (record s { tokens = take s.mark s.tokens })))
+pub dot-fresh : (p : Place) (s : State) (x : Lexeme) (k : TokenKind) (end : ℕ) → After p s → s.has_bars ≡ has_bars (past_of p) → x.shape ≡ shape.Dot → Fresh (shape.Dot ∷ past_of p) (p.tokens ++ token_at k p.at end ∷ []) (entered (record x { before = after_operator s.last x.shape; keeps = names_method s.last }) (pushed k p.at end (record s { tokens = take s.mark s.tokens })))
 unfolding same_shape
 dot-fresh p s x k end b bars e =
     record {
       tokens_are = ap (λ ts. ts ++ token_at k p.at end ∷ []) b.tokens_are;
       mark_is = refl;
-      before_is = ap (behind_operator s.last) e ∙ ap (λ l. behind_operator l shape.Dot) b.last_is;
-      last_is = ap (behind_operator s.last) e ∙ ap (λ l. behind_operator l shape.Dot) b.last_is;
+      before_is = ap (after_operator s.last) e ∙ ap (λ l. after_operator l shape.Dot) b.last_is;
+      last_is = ap (after_operator s.last) e ∙ ap (λ l. after_operator l shape.Dot) b.last_is;
       keeps_is = ap (λ t. names_method s.last || (same_shape t shape.Pipe && s.has_bars)) e ∙ ap (λ l. names_method l || false) b.last_is;
       bars_is = ap (λ t. if same_shape t shape.Pipe then not s.has_bars && opens s.look.before else s.has_bars) e ∙ bars;
       blank_is = refl;
       fresh_is = refl;
     }
 
-pub safe-fresh : (p : Place) (s : State) (x : Lexeme) (k : TokenKind) (end : ℕ) → Behind p s → s.has_bars ≡ has_bars (past_of p) → x.shape ≡ shape.SafeDot → Fresh (shape.SafeDot ∷ past_of p) (p.tokens ++ token_at k p.at end ∷ []) (entered (record x { before = behind_operator s.last x.shape; keeps = names_method s.last }) (pushed k p.at end (record s { tokens = take s.mark s.tokens })))
+pub safe-fresh : (p : Place) (s : State) (x : Lexeme) (k : TokenKind) (end : ℕ) → After p s → s.has_bars ≡ has_bars (past_of p) → x.shape ≡ shape.SafeDot → Fresh (shape.SafeDot ∷ past_of p) (p.tokens ++ token_at k p.at end ∷ []) (entered (record x { before = after_operator s.last x.shape; keeps = names_method s.last }) (pushed k p.at end (record s { tokens = take s.mark s.tokens })))
 unfolding same_shape
 safe-fresh p s x k end b bars e =
     record {
       tokens_are = ap (λ ts. ts ++ token_at k p.at end ∷ []) b.tokens_are;
       mark_is = refl;
-      before_is = ap (behind_operator s.last) e;
-      last_is = ap (behind_operator s.last) e;
+      before_is = ap (after_operator s.last) e;
+      last_is = ap (after_operator s.last) e;
       keeps_is = ap (λ t. names_method s.last || (same_shape t shape.Pipe && s.has_bars)) e ∙ ap (λ l. names_method l || false) b.last_is;
       bars_is = ap (λ t. if same_shape t shape.Pipe then not s.has_bars && opens s.look.before else s.has_bars) e ∙ bars;
       blank_is = refl;
@@ -309,7 +309,7 @@ nested-fresh past tokens c end s f =
     (λ k. record { tokens_are = f.tokens_are; mark_is = f.mark_is; before_is = f.before_is; last_is = f.last_is; keeps_is = f.keeps_is; bars_is = f.bars_is; blank_is = f.blank_is; fresh_is = f.fresh_is })
     (λ k. f))
 
--- what is open behind a token
+-- what is open after a token
 pub nested-stack : (c : Shape) (end : ℕ) (s : State) (f : List Bool) (o : List ℕ) → same_shape c shape.Interpolation ≡ false → s.string ≡ None → Stack s.nesting f o → (same_shape c shape.CloseBrace ≡ true → take 1 f ≡ true ∷ [] → ⊥)
     → Stack (nested c end s).nesting (if same_shape c shape.Interpolation then true ∷ f else (if same_shape c shape.OpenBrace then false ∷ f else (if same_shape c shape.CloseBrace then drop 1 f else f))) o × ((nested c end s).string ≡ None)
 nested-stack c end s f o i none st stays = by (same_shape c shape.OpenBrace) (same_shape c shape.CloseBrace) stays

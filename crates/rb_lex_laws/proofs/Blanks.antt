@@ -170,7 +170,7 @@ goes_on false (c ∷ z) =
     else (if c == 35 then goes_on true z
     else ((c == 46 && is_letter (slice_index z 0)) || (c == 38 && slice_index z 0 == 46)))))
 
--- behind a blank
+-- after a blank
 pub on-blank : (w rest : List ℕ) → IsBlank w rest → goes_on false (w ++ rest) ≡ goes_on false rest
 on-blank _ _ (IsBlank.Space rest) = refl
 on-blank _ _ (IsBlank.Tab rest) = refl
@@ -187,7 +187,7 @@ at-end [] h = refl
 at-end (c ∷ rest) (inl e) = absurd (cc)
 at-end (c ∷ rest) (inr e) = ap (λ k. goes_on true (k ∷ rest)) e ∙ ap (λ k. goes_on false (k ∷ rest)) (sym e)
 
--- behind a comment
+-- after a comment
 pub on-comment : (w rest : List ℕ) → IsComment w rest → goes_on false (35 ∷ w ++ rest) ≡ goes_on false rest
 on-comment w rest h = in-comment w rest h.plain ∙ at-end rest h.ended
 

@@ -93,13 +93,13 @@ module _ (p : Place) (s : State) (z : List ℕ) (m : Matches p s z) (o : OpenStr
       text_is : take (length (enc w)) (enc z) ≡ enc w
       text_is = ap (take (length (enc w))) front ∙ take-front (enc w) (o.quote ∷ enc rest)
 
-      behind_is : drop (length (enc w) + 1) (enc z) ≡ enc rest
-      behind_is = ap (drop (length (enc w) + 1)) parts ∙ ap (λ k. drop k ((enc w ++ o.quote ∷ []) ++ enc rest)) (sym long) ∙ drop-front (enc w ++ o.quote ∷ []) (enc rest)
+      after_is : drop (length (enc w) + 1) (enc z) ≡ enc rest
+      after_is = ap (drop (length (enc w) + 1)) parts ∙ ap (λ k. drop k ((enc w ++ o.quote ∷ []) ++ enc rest)) (sym long) ∙ drop-front (enc w ++ o.quote ∷ []) (enc rest)
 
       stepped : step p.at (enc z) s ≡ Ok (length (enc w) + 1, text_end w (length (enc w)) (kind.Text (take (length (enc w)) (enc z))))
       stepped =
           string-piece p.at (enc z) s (held_as o) (record { stop = stop.Quote; len = length (enc w) }) open_is (ap (λ y. piece_of o.quote (enc y)) (sym whole) ∙ quote-piece o.quote w rest q content)
-          ∙ if-false (is_touched (drop (length (enc w) + 1) (enc z))) (Err (Outside o.opening)) _ (ap is_touched behind_is ∙ false-of (is_touched (enc rest)) (λ t. free (bytes-touched rest t)))
+          ∙ if-false (is_touched (drop (length (enc w) + 1) (enc z))) (Err (Outside o.opening)) _ (ap is_touched after_is ∙ false-of (is_touched (enc rest)) (λ t. free (bytes-touched rest t)))
 
       some : 0 < length (enc w ++ o.quote ∷ [])
       some = let l = long in omega arith
@@ -131,8 +131,8 @@ module _ (p : Place) (s : State) (z : List ℕ) (m : Matches p s z) (o : OpenStr
       parts : enc z ≡ (enc w ++ o.quote ∷ []) ++ enc rest
       parts = front ∙ sym (append_assoc (enc w) (o.quote ∷ []) (enc rest))
 
-      behind_is : drop (length (enc w) + 1) (enc z) ≡ enc rest
-      behind_is = ap (drop (length (enc w) + 1)) parts ∙ ap (λ k. drop k ((enc w ++ o.quote ∷ []) ++ enc rest)) (sym (length-append (enc w) (o.quote ∷ []))) ∙ drop-front (enc w ++ o.quote ∷ []) (enc rest)
+      after_is : drop (length (enc w) + 1) (enc z) ≡ enc rest
+      after_is = ap (drop (length (enc w) + 1)) parts ∙ ap (λ k. drop k ((enc w ++ o.quote ∷ []) ++ enc rest)) (sym (length-append (enc w) (o.quote ∷ []))) ∙ drop-front (enc w ++ o.quote ∷ []) (enc rest)
 
       enc-first-of : (w : List ℕ) (c : ℕ) (rest : List ℕ) → c < 128 → (b : ℕ) × (y : List ℕ) × (enc w ++ (c ∷ enc rest) ≡ b ∷ y)
       enc-first-of [] c rest low = (c, enc rest, refl)
@@ -141,7 +141,7 @@ module _ (p : Place) (s : State) (z : List ℕ) (m : Matches p s z) (o : OpenStr
       stepped : step p.at (enc z) s ≡ Err (Outside o.opening)
       stepped =
           string-piece p.at (enc z) s (held_as o) (record { stop = stop.Quote; len = length (enc w) }) open_is (ap (λ y. piece_of o.quote (enc y)) (sym whole) ∙ quote-piece o.quote w rest q content)
-          ∙ if-true (is_touched (drop (length (enc w) + 1) (enc z))) (Err (Outside o.opening)) _ (ap is_touched behind_is ∙ touched-bytes rest touch)
+          ∙ if-true (is_touched (drop (length (enc w) + 1) (enc z))) (Err (Outside o.opening)) _ (ap is_touched after_is ∙ touched-bytes rest touch)
 
   abbrev hashed : ℕ → TokenKind → State
   hashed n k =

@@ -1,4 +1,4 @@
--- What the step at a place outside strings finds, over characters, and the state and the place behind it.
+-- What the step at a place outside strings finds, over characters, and the state and the place after it.
 use Rattle.std.proofs.Common.{◌≡◌, ℕ, ◌+◌, ◌⊎◌, true, false, ◌==◌, ◌&&◌, List, [], ◌∷◌, ◌++◌, drop, Option, Some, None, inl, inr, refl, sym, ap, subst, ◌∙◌}
 use Rattle.std.specs.Prelude.{slice_index}
 use Rattle.srb_text.specs.Positions.{byte_len}
@@ -111,13 +111,13 @@ unfolding shape_of kind_by plain_kind
 kind-shape shape.Text words = refl
 kind-shape _ words = refl
 
--- ---- behind a token
+-- ---- after a token
 
--- behind a token that ends no interpolation
+-- after a token that ends no interpolation
 abbrev pub Landed : Place → ℕ → State → List ℕ → Place → List ℕ → Type 0
 Landed p at s y q rest = (more : State) × (lexed_from 0 at s y ≡ lexed_from 0 q.at more (enc rest)) × Matches q more rest
 
--- behind the `}` that ends an interpolation
+-- after the `}` that ends an interpolation
 abbrev pub returned : ℕ → List ℕ → Place → Place
 returned opening outer p = record (spelt shape.CloseBrace (125 ∷ []) [] p) { string = Some (record { quote = 34; opening = opening; from = p.at + 1 }); outer = outer }
 
@@ -125,9 +125,9 @@ pub spelt-past : (t : Shape) (w words : List ℕ) (p : Place) → past_of (spelt
 spelt-past t w words p =
     past-push p.tokens (token_at (kind_by t (enc words)) p.at (p.at + byte_len w)) ∙ ap (λ u. u ∷ past_of p) (kind-shape t (enc words))
 
--- the state behind the token, as it stands beside the place behind the token
-pub behind-fresh : (p : Place) (t : Shape) (w words : List ℕ) (k : TokenKind) (end : ℕ) (s : State) → k ≡ kind_of t (enc words) → end ≡ p.at + byte_len w → Fresh (t ∷ past_of p) (p.tokens ++ token_at k p.at end ∷ []) s → Fresh (past_of (spelt t w words p)) (spelt t w words p).tokens s
-behind-fresh p t w words k end s e f h =
+-- the state after the token, as it stands beside the place after the token
+pub after-fresh : (p : Place) (t : Shape) (w words : List ℕ) (k : TokenKind) (end : ℕ) (s : State) → k ≡ kind_of t (enc words) → end ≡ p.at + byte_len w → Fresh (t ∷ past_of p) (p.tokens ++ token_at k p.at end ∷ []) s → Fresh (past_of (spelt t w words p)) (spelt t w words p).tokens s
+after-fresh p t w words k end s e f h =
     subst (λ past. Fresh past (spelt t w words p).tokens s) (sym (spelt-past t w words p))
     (subst (λ n. Fresh (t ∷ past_of p) (p.tokens ++ token_at (kind_by t (enc words)) p.at n ∷ []) s) f (subst (λ q. Fresh (t ∷ past_of p) (p.tokens ++ token_at q p.at end ∷ []) s) (e ∙ kind-same t (enc words)) h))
 

@@ -4,7 +4,7 @@ use Rattle.std.specs.List.{list_all, starts_with}
 use Rattle.srb_terms.specs.declared.level.Level.{Level}
 use Rattle.srb_terms.specs.declared.level.Level.TheVariants.{Ignore, False, True, Strict, Strong}
 use Rattle.rb_lex.specs.Chars.{is_in, run_len}
-use Rattle.rb_lex.specs.Levels.{level_named, behind_blanks, word_len, level_alone, level_in}
+use Rattle.rb_lex.specs.Levels.{level_named, after_blanks, word_len, level_alone, level_in}
 use Rattle.rb_lex.specs.declared.chars.Set.TheVariants as set
 use Rattle.rb_lex_laws.specs.Levels.{GivenLevelsAreFound}
 use Rattle.rb_rules.specs.Levels.{word_of_level, AreBlank}
@@ -18,11 +18,11 @@ take-front : (a z : List ℕ) → take (length a) (a ++ z) ≡ a
 take-front [] z = refl
 take-front (c ∷ a) z = ap (λ w. c ∷ w) (take-front a z)
 
--- behind blanks stands what begins with none
-past-blanks : (a : List ℕ) (c : ℕ) (z : List ℕ) → AreBlank a → is_in set.Blank c ≡ false → behind_blanks (a ++ c ∷ z) ≡ c ∷ z
+-- after blanks stands what begins with none
+past-blanks : (a : List ℕ) (c : ℕ) (z : List ℕ) → AreBlank a → is_in set.Blank c ≡ false → after_blanks (a ++ c ∷ z) ≡ c ∷ z
 past-blanks a c z blank free = ap (λ n. drop n (a ++ c ∷ z)) (run-ends set.Blank a c z blank free) ∙ drop-front a (c ∷ z)
 
-only-blanks : (a : List ℕ) → AreBlank a → behind_blanks a ≡ []
+only-blanks : (a : List ℕ) → AreBlank a → after_blanks a ≡ []
 only-blanks [] h = refl
 only-blanks (c ∷ a) h =
     let here = and-left (is_in set.Blank c) (list_all (is_in set.Blank) a) h in
@@ -46,11 +46,11 @@ word-ends (c ∷ w) a h blank =
 -- a text of blanks, a word without blanks, and blanks gives what the word names
 alone : (between : List ℕ) (c : ℕ) (w after : List ℕ) → AreBlank between → HasNoBlank (c ∷ w) → is_in set.Blank c ≡ false → AreBlank after → level_alone (between ++ ((c ∷ w) ++ after)) ≡ level_named (c ∷ w)
 alone between c w after b h free a =
-    let word : behind_blanks (between ++ ((c ∷ w) ++ after)) ≡ (c ∷ w) ++ after = past-blanks between c (w ++ after) b free in
-    let P : List ℕ → ℕ → Option Level = λ z n. if length (behind_blanks (drop n z)) == 0 then level_named (take n z) else None in
+    let word : after_blanks (between ++ ((c ∷ w) ++ after)) ≡ (c ∷ w) ++ after = past-blanks between c (w ++ after) b free in
+    let P : List ℕ → ℕ → Option Level = λ z n. if length (after_blanks (drop n z)) == 0 then level_named (take n z) else None in
     ap (λ z. P z (word_len z)) word
     ∙ ap (P ((c ∷ w) ++ after)) (word-ends (c ∷ w) after h a)
-    ∙ ap (λ z. if length (behind_blanks z) == 0 then level_named (take (length (c ∷ w)) ((c ∷ w) ++ after)) else None) (drop-front (c ∷ w) after)
+    ∙ ap (λ z. if length (after_blanks z) == 0 then level_named (take (length (c ∷ w)) ((c ∷ w) ++ after)) else None) (drop-front (c ∷ w) after)
     ∙ ap (λ z. if length z == 0 then level_named (take (length (c ∷ w)) ((c ∷ w) ++ after)) else None) (only-blanks after a)
     ∙ ap level_named (take-front (c ∷ w) after)
 
@@ -61,7 +61,7 @@ named between True after b a = alone between 116 (codes "rue") after b refl refl
 named between Strict after b a = alone between 115 (codes "trict") after b refl refl a
 named between Strong after b a = alone between 115 (codes "trong") after b refl refl a
 
--- behind `typed:`
+-- after `typed:`
 typed : (z : List ℕ) → (if starts_with nat_eq (codes "typed:" ++ z) (codes "typed:") then level_alone (drop 6 (codes "typed:" ++ z)) else None) ≡ level_alone z
 typed z = refl
 

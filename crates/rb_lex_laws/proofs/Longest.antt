@@ -57,11 +57,11 @@ pub at-seam : (w : List ℕ) (m : ℕ) (rest : List ℕ) → slice_index (w ++ m
 at-seam [] m rest = refl
 at-seam (c ∷ w) m rest = at-seam w m rest
 
-pub behind-seam : (w : List ℕ) (m : ℕ) (rest : List ℕ) → slice_index (w ++ m ∷ rest) (length w + 1) ≡ slice_index rest 0
-behind-seam [] m rest = refl
-behind-seam (c ∷ w) m rest =
+pub after-seam : (w : List ℕ) (m : ℕ) (rest : List ℕ) → slice_index (w ++ m ∷ rest) (length w + 1) ≡ slice_index rest 0
+after-seam [] m rest = refl
+after-seam (c ∷ w) m rest =
     let e : suc (length w) + 1 ≡ suc (length w + 1) = omega arith in
-    ap (slice_index (c ∷ w ++ m ∷ rest)) e ∙ behind-seam w m rest
+    ap (slice_index (c ∷ w ++ m ∷ rest)) e ∙ after-seam w m rest
 
 pub no-equals : (rest : List ℕ) → ¬ Begins 61 rest → (slice_index rest 0 == 61) ≡ false
 no-equals [] h = refl
@@ -87,7 +87,7 @@ marked-len w m rest all out mark free =
     ap P (run-ends set.Word w m rest all out)
     ∙ ap (λ a. Q a (slice_index z (length w + 1))) (at-seam w m rest)
     ∙ ap (λ t. if (t && not (slice_index z (length w + 1) == 61)) then length w + 1 else length w) mark
-    ∙ ap (λ b. if not (b == 61) then length w + 1 else length w) (behind-seam w m rest)
+    ∙ ap (λ b. if not (b == 61) then length w + 1 else length w) (after-seam w m rest)
     ∙ ap (λ t. if not t then length w + 1 else length w) (no-equals rest free)
 
 seam-length : (w : List ℕ) (m : ℕ) (rest : List ℕ) → identifier_len (w ++ m ∷ rest) ≡ length w + 1 → length (w ++ m ∷ []) ≤ identifier_len ((w ++ m ∷ []) ++ rest)

@@ -11,7 +11,7 @@ use Rattle.rb_lex.specs.Chars.{is_in, run_len, begins_name, is_upper, is_letter,
 use Rattle.rb_lex.specs.Words.{identifier_len, ends_with_equals, symbol_len}
 use Rattle.rb_lex.specs.Numbers.{spelling_of, is_foreign, fits, digits_in, base_of}
 use Rattle.rb_lex.specs.Operators.{found, operator, method_name}
-use Rattle.rb_lex.specs.Cuts.{names_method, is_operand_end, is_constant, is_strange_opening, begins_here_document, is_outside, is_bad, is_closing, behind_operator, token, number, variable, judged, sign_at, sign, colon}
+use Rattle.rb_lex.specs.Cuts.{names_method, is_operand_end, is_constant, is_strange_opening, begins_here_document, is_outside, is_bad, is_closing, after_operator, token, number, variable, judged, sign_at, sign, colon}
 use Rattle.rb_lex.specs.Lexed.{words_of, kind_of}
 use Rattle.rb_lex.specs.declared.operator.Sign.{Sign}
 use Rattle.rb_lex.specs.declared.operator.Sign.TheVariants as signs
@@ -63,9 +63,9 @@ zero-digit past look d (c ∷ u) h =
     let both = and-both (d == 48) (is_in set.Decimal c) h in
     subst (λ k. IsForeign past look.is_blank look.is_fresh (k ∷ c ∷ u)) (sym (eq-is d 48 both.0)) (IsForeign.ZeroAndDigit c u both.1)
 
-letter-behind : (past : List Shape) (look : Look) (s : Shape) (w rest : List ℕ) → Holds s NUMBERS → IsLongest past s w w rest → is_letter (slice_index rest 0) ≡ true → IsForeign past look.is_blank look.is_fresh (w ++ rest)
-letter-behind past look s w [] held l h = absurd (cc)
-letter-behind past look s w (c ∷ rest) held l h = IsForeign.NumberAndLetter s w rest c held l h
+letter-after : (past : List Shape) (look : Look) (s : Shape) (w rest : List ℕ) → Holds s NUMBERS → IsLongest past s w w rest → is_letter (slice_index rest 0) ≡ true → IsForeign past look.is_blank look.is_fresh (w ++ rest)
+letter-after past look s w [] held l h = absurd (cc)
+letter-after past look s w (c ∷ rest) held l h = IsForeign.NumberAndLetter s w rest c held l h
 
 module _ (past : List Shape) (look : Look) (d : ℕ) (u : List ℕ) (digit : is_in set.Decimal d ≡ true) where
   number-letter : (m : Numeral past (d ∷ u) (spelling_of (d ∷ u))) → slice_index (d ∷ u) (spelling_of (d ∷ u)).len ≡ slice_index m.rest 0
@@ -95,7 +95,7 @@ module _ (past : List Shape) (look : Look) (d : ℕ) (u : List ℕ) (digit : is_
   number-outside m (inl e) = zero-digit past look d u e
   number-outside m (inr (inl e)) =
       subst (IsForeign past look.is_blank look.is_fresh) m.best.whole
-      (letter-behind past look (if (spelling_of (d ∷ u)).is_float then shape.Float else shape.Whole) m.number m.rest (is_number (spelling_of (d ∷ u)).is_float) (longest-of past (d ∷ u) _ m.number m.number m.rest m.best) (ap is_letter (sym (number-letter m)) ∙ e))
+      (letter-after past look (if (spelling_of (d ∷ u)).is_float then shape.Float else shape.Whole) m.number m.rest (is_number (spelling_of (d ∷ u)).is_float) (longest-of past (d ∷ u) _ m.number m.number m.rest m.best) (ap is_letter (sym (number-letter m)) ∙ e))
   number-outside m (inr (inr e)) =
       let n = spelling_of (d ∷ u) in
       let both = or-neither n.is_float (fits 0 n.digits (digits_in n (d ∷ u))) (not-true (n.is_float || fits 0 n.digits (digits_in n (d ∷ u))) e) in
@@ -536,7 +536,7 @@ module _ (past : List Shape) (look : Look) (is : look.before ≡ before_of past)
   paren-outside s w rest row h =
       let all = three-and (same_shape s shape.OpenParen) (is_constant look.before) (not look.is_blank) h in
       let front : w ≡ 40 ∷ [] = paren-word w (subst (λ t. Holds (t, w) OPERATORS) (same-is s shape.OpenParen all.0) row) in
-      subst (λ z. IsForeign past look.is_blank look.is_fresh (z ++ rest)) (sym front) (IsForeign.ParenBehindConstant rest ((constant-asked past).0 (ap is_constant (sym is) ∙ all.1)) (not-true look.is_blank all.2))
+      subst (λ z. IsForeign past look.is_blank look.is_fresh (z ++ rest)) (sym front) (IsForeign.ParenAfterConstant rest ((constant-asked past).0 (ap is_constant (sym is) ∙ all.1)) (not-true look.is_blank all.2))
 
   method-outside : {X : Type 0} (s : Shape) (w : List ℕ) → (same_shape s shape.Question ≡ true) ⊎ (same_shape s shape.OpenParen ≡ true) → Holds (s, w) METHOD_OPERATORS → X
   method-outside s w h row = by h (at-row (λ (r : Shape × List ℕ). (same_shape r.0 shape.Question ≡ false) × (same_shape r.0 shape.OpenParen ≡ false)) (s, w) METHOD_OPERATORS method-quiet row)
@@ -557,14 +557,14 @@ module _ (past : List Shape) (look : Look) (is : look.before ≡ before_of past)
       by (inl op) (inr (inr (inr e))) = paren-outside s w rest op e
       by (inr m) (inr (inr (inr e))) = method-outside s w (inr (three-and (same_shape s shape.OpenParen) (is_constant look.before) (not look.is_blank) e).0) m
 
-  operator-token : (y : List ℕ) (s : Shape) (n : ℕ) (w rest : List ℕ) → Best past y s w [] rest → n ≡ length w → (Holds (s, w) OPERATORS ⊎ (names_method (before_of past) ≡ true) × Holds (s, w) METHOD_OPERATORS) → is_outside look s rest ≡ false → is_bad look s rest ≡ false → ((Holds s NUMBERS → ⊥)) → Shown past look y (token s n (behind_operator look.before s) (is_closing s || names_method look.before))
+  operator-token : (y : List ℕ) (s : Shape) (n : ℕ) (w rest : List ℕ) → Best past y s w [] rest → n ≡ length w → (Holds (s, w) OPERATORS ⊎ (names_method (before_of past) ≡ true) × Holds (s, w) METHOD_OPERATORS) → is_outside look s rest ≡ false → is_bad look s rest ≡ false → ((Holds s NUMBERS → ⊥)) → Shown past look y (token s n (after_operator look.before s) (is_closing s || names_method look.before))
   operator-token y s n w rest b len row inside good plain =
-      subst (λ k. Shown past look y (token s n (behind_operator k s) (is_closing s || names_method k))) (sym is) (by row)
+      subst (λ k. Shown past look y (token s n (after_operator k s) (is_closing s || names_method k))) (sym is) (by row)
     where
       passes : Passes look s w rest
       passes = record { inside = inside; good = good; apart = λ h. absurd (plain h); small = λ e. absurd (plain (inl e)) }
 
-      by : (Holds (s, w) OPERATORS ⊎ (names_method (before_of past) ≡ true) × Holds (s, w) METHOD_OPERATORS) → Shown past look y (token s n (behind_operator (before_of past) s) (is_closing s || names_method (before_of past)))
+      by : (Holds (s, w) OPERATORS ⊎ (names_method (before_of past) ≡ true) × Holds (s, w) METHOD_OPERATORS) → Shown past look y (token s n (after_operator (before_of past) s) (is_closing s || names_method (before_of past)))
       by (inl op) = Shown.Token _ w [] rest b len (operators-mute s w (words_of s n y) op) (operator-says past s w n op) passes
       by (inr m) = Shown.Token _ w [] rest b len (methods-mute s w (words_of s n y) m.1) (method-says past s w n m.0 m.1) passes
 

@@ -7,7 +7,7 @@ use Rattle.rb_tree.specs.declared.token.Shape.{Shape}
 use Rattle.rb_tree.specs.declared.token.Shape.TheVariants as shape
 use Rattle.rb_lex.specs.Chars.{is_in, run_len, begins_name, is_upper}
 use Rattle.rb_lex.specs.Words.{word_of, identifier_len, is_labelled}
-use Rattle.rb_lex.specs.Cuts.{is_behind_dot, token, keyword, label, name, constant}
+use Rattle.rb_lex.specs.Cuts.{is_after_dot, token, keyword, label, name, constant}
 use Rattle.rb_lex.specs.Lexed.{words_of, kind_of}
 use Rattle.rb_lex.specs.declared.chars.Set.TheVariants as set
 use Rattle.rb_lex.specs.declared.cut.Before.TheVariants as before
@@ -17,7 +17,7 @@ use Rattle.rb_lex.specs.declared.cut.Cut.TheVariants as cuts
 use Rattle.rb_lex.specs.declared.word.Word.{Word}
 use Rattle.rb_lex.specs.declared.word.Word.TheVariants as word
 use Rattle.rb_rules.specs.Spellings.{Begins, Holds, IsIdentifier, IsConstant, KEYWORDS, FOREIGN_OPERATORS}
-use Rattle.rb_rules.specs.Before.{IsBehindDot}
+use Rattle.rb_rules.specs.Before.{IsAfterDot}
 use Rattle.rb_rules.specs.Lexes.{IsWord, Spells, IsWholeName, IsForeign}
 use Rattle.rb_lex_laws.proofs.Best.{Best, IsSame, below-or, no-foreign, keyword-begins, free-word, one-keyword}
 use Rattle.rb_lex_laws.proofs.Lists.{split, both-and, and-both, not-of, not-true, no-both, is-begins, begins-is, begins-not, begins-parts, front-same, take-front, tail-at, on-begins, begins-on}
@@ -85,7 +85,7 @@ module _ (past : List Shape) (w rest : List ℕ) (id : IsIdentifier w rest) (len
       let f = identifier-first w rest id in
       no-foreign v more f.first (f.others ++ rest) Kind.Name h (e ∙ ap (λ z. z ++ rest) f.whole) f.kind_is (λ k. absurd (cc))
 
-  identifier-others : (IsBehindDot past ⊎ ¬ IsWord w) → is_labelled (w ++ rest) (length w) ≡ false → (t : Shape) (v os more : List ℕ) → v ++ more ≡ w ++ rest → NameLike past t v os more → (length v < length w) ⊎ IsSame shape.Identifier w w t v os
+  identifier-others : (IsAfterDot past ⊎ ¬ IsWord w) → is_labelled (w ++ rest) (length w) ≡ false → (t : Shape) (v os more : List ℕ) → v ++ more ≡ w ++ rest → NameLike past t v os more → (length v < length w) ⊎ IsSame shape.Identifier w w t v os
   identifier-others free no_label _ _ _ more e (NameLike.Identifier v _ h f) = by (below-or (length v) (length w) (at-most v more e h))
     where
       by : (length v < length w) ⊎ (length v ≡ length w) → (length v < length w) ⊎ IsSame shape.Identifier w w shape.Identifier v v
@@ -100,19 +100,19 @@ module _ (past : List Shape) (w rest : List ℕ) (id : IsIdentifier w rest) (len
           same : v ≡ w
           same = front-same v more w rest e l
 
-          no : (IsBehindDot past ⊎ ¬ IsWord w) → (length v < length w) ⊎ IsSame shape.Identifier w w s v []
+          no : (IsAfterDot past ⊎ ¬ IsWord w) → (length v < length w) ⊎ IsSame shape.Identifier w w s v []
           no (inl d) = absurd (dot d)
           no (inr f) = absurd (f (inl (s, subst (λ z. Holds (s, z) KEYWORDS) same row)))
   identifier-others free no_label _ _ _ more e (NameLike.Label v _ h f) = no-label (w ++ rest) v more (length w) e (label-len v more e h) f no_label
 
-  best-identifier : (IsBehindDot past ⊎ ¬ IsWord w) → is_labelled (w ++ rest) (length w) ≡ false → Best past (w ++ rest) shape.Identifier w w rest
+  best-identifier : (IsAfterDot past ⊎ ¬ IsWord w) → is_labelled (w ++ rest) (length w) ≡ false → Best past (w ++ rest) shape.Identifier w w rest
   best-identifier free no_label =
       record { whole = refl; spells = Spells.Identifier w rest id free; others = λ t v os more e h. identifier-others free no_label t v os more e (like t v os more e h); own = name-own (length w) }
 
-  keyword-others : (s : Shape) → Holds (s, w) KEYWORDS → ¬ IsBehindDot past → is_labelled (w ++ rest) (length w) ≡ false → (t : Shape) (v os more : List ℕ) → v ++ more ≡ w ++ rest → NameLike past t v os more → (length v < length w) ⊎ IsSame s w [] t v os
+  keyword-others : (s : Shape) → Holds (s, w) KEYWORDS → ¬ IsAfterDot past → is_labelled (w ++ rest) (length w) ≡ false → (t : Shape) (v os more : List ℕ) → v ++ more ≡ w ++ rest → NameLike past t v os more → (length v < length w) ⊎ IsSame s w [] t v os
   keyword-others s row dot no_label _ _ _ more e (NameLike.Identifier v _ h f) = by (below-or (length v) (length w) (at-most v more e h)) f
     where
-      by : (length v < length w) ⊎ (length v ≡ length w) → (IsBehindDot past ⊎ ¬ IsWord v) → (length v < length w) ⊎ IsSame s w [] shape.Identifier v v
+      by : (length v < length w) ⊎ (length v ≡ length w) → (IsAfterDot past ⊎ ¬ IsWord v) → (length v < length w) ⊎ IsSame s w [] shape.Identifier v v
       by (inl l) f = inl l
       by (inr l) (inl d) = absurd (dot d)
       by (inr l) (inr f) = absurd (f (inl (s, subst (λ z. Holds (s, z) KEYWORDS) (sym (front-same v more w rest e l)) row)))
@@ -123,7 +123,7 @@ module _ (past : List Shape) (w rest : List ℕ) (id : IsIdentifier w rest) (len
       by (inr l) = let same = front-same v more w rest e l in inr (one-keyword t s w (subst (λ z. Holds (t, z) KEYWORDS) same other) row, same, refl)
   keyword-others s row dot no_label _ _ _ more e (NameLike.Label v _ h f) = no-label (w ++ rest) v more (length w) e (label-len v more e h) f no_label
 
-  best-keyword : (s : Shape) → Holds (s, w) KEYWORDS → ¬ IsBehindDot past → is_labelled (w ++ rest) (length w) ≡ false → Best past (w ++ rest) s w [] rest
+  best-keyword : (s : Shape) → Holds (s, w) KEYWORDS → ¬ IsAfterDot past → is_labelled (w ++ rest) (length w) ≡ false → Best past (w ++ rest) s w [] rest
   best-keyword s row dot no_label =
       record { whole = refl; spells = Spells.Keyword s w rest id row dot; others = λ t v os more e h. keyword-others s row dot no_label t v os more e (like t v os more e h); own = name-own (length w) }
 
@@ -184,13 +184,13 @@ shown-keyword past look s w rest row b =
     Shown.Token _ w [] rest b refl (keywords-mute s w (words_of s (length w) (w ++ rest)) row) (keyword-says past s w (length w) row) (quiet-passes look s w rest (keywords-quiet s w row))
 
 module _ (past : List Shape) (look : Look) (w rest : List ℕ) (id : IsIdentifier w rest) (len : identifier_len (w ++ rest) ≡ length w) where
-  name-word : is_labelled (w ++ rest) (length w) ≡ false → is_behind_dot (before_of past) ≡ false → (x : Word) → word_of w ≡ x → Shown past look (w ++ rest) (elim x [ word.Free ↦ identifier-token (length w) | word.Keyword s ↦ keyword (before_of past) s (length w) | word.Foreign ↦ cuts.Outside ])
+  name-word : is_labelled (w ++ rest) (length w) ≡ false → is_after_dot (before_of past) ≡ false → (x : Word) → word_of w ≡ x → Shown past look (w ++ rest) (elim x [ word.Free ↦ identifier-token (length w) | word.Keyword s ↦ keyword (before_of past) s (length w) | word.Foreign ↦ cuts.Outside ])
   name-word no_label no_dot word.Free e = shown-identifier past look w rest (best-identifier past w rest id len (inr (free-word w e)) no_label)
   name-word no_label no_dot (word.Keyword s) e =
       let row = keywords-listed s w e in
-      shown-keyword past look s w rest row (best-keyword past w rest id len s row (λ d. no-both (is_behind_dot (before_of past)) ((dot-asked past).1 d) no_dot) no_label)
+      shown-keyword past look s w rest row (best-keyword past w rest id len s row (λ d. no-both (is_after_dot (before_of past)) ((dot-asked past).1 d) no_dot) no_label)
   name-word no_label no_dot word.Foreign e =
-      Shown.Alien (IsForeign.ForeignWord w rest (whole-name past w rest id len no_label) (foreign-listed w e) (λ d. no-both (is_behind_dot (before_of past)) ((dot-asked past).1 d) no_dot))
+      Shown.Alien (IsForeign.ForeignWord w rest (whole-name past w rest id len no_label) (foreign-listed w e) (λ d. no-both (is_after_dot (before_of past)) ((dot-asked past).1 d) no_dot))
 
   shown-named : Shown past look (w ++ rest) (name (before_of past) (w ++ rest))
   unfolding name
@@ -198,12 +198,12 @@ module _ (past : List Shape) (look : Look) (w rest : List ℕ) (id : IsIdentifie
       let z = w ++ rest in
       let P : ℕ → Type 0 = λ n. Shown past look z (
       if is_labelled z n then label n
-      else (if is_behind_dot (before_of past) then token shape.Identifier n before.Name true
+      else (if is_after_dot (before_of past) then token shape.Identifier n before.Name true
       else (elim (word_of (take n z)) [ word.Free ↦ token shape.Identifier n before.Name true | word.Keyword s ↦ keyword (before_of past) s n | word.Foreign ↦ cuts.Outside ]))) in
       subst P (sym len)
       (split (Shown past look z) (is_labelled z (length w)) (label (length w)) _
       (λ e. let l = labelled w rest e in shown-label past look z w (drop 1 rest) (best-label past w rest id len l.0 l.1))
-      (λ e. split (Shown past look z) (is_behind_dot (before_of past)) (identifier-token (length w)) _
+      (λ e. split (Shown past look z) (is_after_dot (before_of past)) (identifier-token (length w)) _
       (λ d. shown-identifier past look w rest (best-identifier past w rest id len (inl ((dot-asked past).0 d)) e))
       (λ d. subst (λ v. Shown past look z (elim (word_of v) [ word.Free ↦ token shape.Identifier (length w) before.Name true | word.Keyword s ↦ keyword (before_of past) s (length w) | word.Foreign ↦ cuts.Outside ])) (sym (take-front w rest)) (name-word e d (word_of w) refl))))
 
@@ -260,7 +260,7 @@ module _ (past : List Shape) (look : Look) (w rest : List ℕ) (named : IsConsta
       by (inr l) = let same = front-same v more w rest e l in inr (refl, same, same)
   constant-others no_label _ _ _ more e (ConstantLike.Label v _ h f) = no-label (w ++ rest) v more (length w) e (constant-label-len v more e h) f no_label
 
-  best-constant : (IsBehindDot past ⊎ ¬ IsWord w) → is_labelled (w ++ rest) (length w) ≡ false → Best past (w ++ rest) shape.Constant w w rest
+  best-constant : (IsAfterDot past ⊎ ¬ IsWord w) → is_labelled (w ++ rest) (length w) ≡ false → Best past (w ++ rest) shape.Constant w w rest
   best-constant free no_label =
       record { whole = refl; spells = Spells.Constant w rest named free; others = λ t v os more e h. constant-others no_label t v os more e (constant-like t v os more e h); own = constant-own (length w) }
 
@@ -291,11 +291,11 @@ module _ (past : List Shape) (look : Look) (w rest : List ℕ) (named : IsConsta
       by v more e (inl h) = no-name v more Kind.Name e (identifier-first v more h) (λ k. absurd (cc))
       by v more e (inr h) = constant-most v more e h
 
-  constant-word : is_labelled (w ++ rest) (length w) ≡ false → is_behind_dot (before_of past) ≡ false → (x : Word) → word_of w ≡ x → Shown past look (w ++ rest) (elim x [ word.Foreign ↦ cuts.Outside | word.Free ↦ constant-token (length w) | word.Keyword s ↦ constant-token (length w) ])
+  constant-word : is_labelled (w ++ rest) (length w) ≡ false → is_after_dot (before_of past) ≡ false → (x : Word) → word_of w ≡ x → Shown past look (w ++ rest) (elim x [ word.Foreign ↦ cuts.Outside | word.Free ↦ constant-token (length w) | word.Keyword s ↦ constant-token (length w) ])
   constant-word no_label no_dot word.Free e = shown-constant-token past look w rest (best-constant (inr (free-word w e)) no_label)
   constant-word no_label no_dot (word.Keyword s) e = no-name w rest Kind.Name refl (keyword-begins s w (keywords-listed s w e)) (λ k. absurd (cc))
   constant-word no_label no_dot word.Foreign e =
-      Shown.Alien (IsForeign.ForeignWord w rest (whole-constant no_label) (foreign-listed w e) (λ d. no-both (is_behind_dot (before_of past)) ((dot-asked past).1 d) no_dot))
+      Shown.Alien (IsForeign.ForeignWord w rest (whole-constant no_label) (foreign-listed w e) (λ d. no-both (is_after_dot (before_of past)) ((dot-asked past).1 d) no_dot))
 
   shown-constant-front : Shown past look (w ++ rest) (constant (before_of past) (w ++ rest))
   unfolding constant
@@ -303,12 +303,12 @@ module _ (past : List Shape) (look : Look) (w rest : List ℕ) (named : IsConsta
       let z = w ++ rest in
       let P : ℕ → Type 0 = λ n. Shown past look z (
       if is_labelled z n then label n
-      else (if is_behind_dot (before_of past) then token shape.Constant n before.Constant true
+      else (if is_after_dot (before_of past) then token shape.Constant n before.Constant true
       else (elim (word_of (take n z)) [ word.Foreign ↦ cuts.Outside | word.Free ↦ token shape.Constant n before.Constant true | word.Keyword s ↦ token shape.Constant n before.Constant true ]))) in
       subst P (sym run-len)
       (split (Shown past look z) (is_labelled z (length w)) (label (length w)) _
       (λ e. let l = labelled w rest e in shown-label past look z w (drop 1 rest) (best-constant-label l.0 l.1))
-      (λ e. split (Shown past look z) (is_behind_dot (before_of past)) (constant-token (length w)) _
+      (λ e. split (Shown past look z) (is_after_dot (before_of past)) (constant-token (length w)) _
       (λ d. shown-constant-token past look w rest (best-constant (inl ((dot-asked past).0 d)) e))
       (λ d. subst (λ v. Shown past look z (elim (word_of v) [ word.Foreign ↦ cuts.Outside | word.Free ↦ token shape.Constant (length w) before.Constant true | word.Keyword s ↦ token shape.Constant (length w) before.Constant true ])) (sym (take-front w rest)) (constant-word e d (word_of w) refl))))
 

@@ -7,7 +7,7 @@ use Rattle.rb_tree.specs.declared.token.TokenKind.{TokenKind}
 use Rattle.rb_tree.specs.declared.token.Shape.{Shape}
 use Rattle.rb_tree.specs.declared.token.Shape.TheVariants as shape
 use Rattle.rb_lex.specs.Chars.{is_letter}
-use Rattle.rb_lex.specs.Cuts.{names_method, is_closing, behind_operator, cut_of, token}
+use Rattle.rb_lex.specs.Cuts.{names_method, is_closing, after_operator, cut_of, token}
 use Rattle.rb_lex.specs.Lexed.{kind_of, words_of, token_at, pushed, continues, joined, continued, nested, entered, accepted, step, lexed_from}
 use Rattle.rb_lex.specs.declared.cut.Look.{Look}
 use Rattle.rb_lex.specs.declared.cut.Lexeme.{Lexeme}
@@ -30,7 +30,7 @@ use Rattle.rb_lex_laws.proofs.Steps.{code-cut, refused, advance, dot-cut, safe-c
 use Rattle.rb_lex_laws.proofs.Strings.{enc-len}
 use Rattle.rb_lex_laws.proofs.Verdicts.{Seen, seen}
 use Rattle.rb_lex_laws.proofs.Beside.{Matches, Fresh, entered-fresh, dot-fresh, safe-fresh, held_string}
-use Rattle.rb_lex_laws.proofs.Landing.{Single, spells-single, goes-needs, Landed, returned, behind-fresh, lands, returns}
+use Rattle.rb_lex_laws.proofs.Landing.{Single, spells-single, goes-needs, Landed, returned, after-fresh, lands, returns}
 
 -- ---- over bytes too no blank, line's end, comment or string begins
 
@@ -59,13 +59,13 @@ other-bytes z o =
         false-of (b == k) (λ t. let one = enc-first z k y low (e ∙ ap (λ c. c ∷ y) (eq-is b k t)) in
         eq-not o.first k free (head-same o.first k o.others one.0 (sym o.whole ∙ one.1)))
 
--- ---- the state behind a token
+-- ---- the state after a token
 
 accepted-plain : (x : Lexeme) (at : ℕ) (y : List ℕ) (s : State) → continues x.shape (drop x.len y) ≡ false → accepted x at y s ≡ nested x.shape (at + x.len) (entered x (pushed (kind_of x.shape (words_of x.shape x.len y)) at (at + x.len) s))
 unfolding accepted
 accepted-plain x at y s e = ap (λ t. nested x.shape (at + x.len) (entered (continued t s.last x) (pushed (kind_of x.shape (words_of x.shape x.len y)) at (at + x.len) (joined t s)))) e
 
-accepted-on : (x : Lexeme) (at : ℕ) (y : List ℕ) (s : State) → continues x.shape (drop x.len y) ≡ true → accepted x at y s ≡ nested x.shape (at + x.len) (entered (record x { before = behind_operator s.last x.shape; keeps = names_method s.last }) (pushed (kind_of x.shape (words_of x.shape x.len y)) at (at + x.len) (record s { tokens = take s.mark s.tokens })))
+accepted-on : (x : Lexeme) (at : ℕ) (y : List ℕ) (s : State) → continues x.shape (drop x.len y) ≡ true → accepted x at y s ≡ nested x.shape (at + x.len) (entered (record x { before = after_operator s.last x.shape; keeps = names_method s.last }) (pushed (kind_of x.shape (words_of x.shape x.len y)) at (at + x.len) (record s { tokens = take s.mark s.tokens })))
 unfolding accepted
 accepted-on x at y s e = ap (λ t. nested x.shape (at + x.len) (entered (continued t s.last x) (pushed (kind_of x.shape (words_of x.shape x.len y)) at (at + x.len) (joined t s)))) e
 
@@ -91,7 +91,7 @@ module _ (p : Place) (s : State) (z : List ℕ) (m : Matches p s z) (none : p.st
   code : s.string ≡ None
   code = m.string_is ∙ ap held_string none
 
-  -- the step goes on behind the spelling
+  -- the step goes on after the spelling
   steps : (w rest : List ℕ) (n : ℕ) (more : State) (q : Place) → enc z ≡ w ++ enc rest → 0 < length w → n ≡ length w → q.at ≡ p.at + length w → step p.at (enc z) s ≡ Ok (n, more) → Matches q more rest → Landed p p.at s (enc z) q rest
   steps w rest n more q whole some len at h matches = (
     more,
@@ -165,7 +165,7 @@ module _ (p : Place) (s : State) (z : List ℕ) (m : Matches p s z) (none : p.st
 
       fresh : Fresh (past_of (spelt x.shape w words p)) (spelt x.shape w words p).tokens (entered x (pushed (kind_of x.shape (words_of x.shape x.len (enc z))) p.at (p.at + x.len) s))
       fresh =
-          behind-fresh p x.shape w words (kind_of x.shape (words_of x.shape x.len (enc z))) (p.at + x.len) (entered x (pushed (kind_of x.shape (words_of x.shape x.len (enc z))) p.at (p.at + x.len) s))
+          after-fresh p x.shape w words (kind_of x.shape (words_of x.shape x.len (enc z))) (p.at + x.len) (entered x (pushed (kind_of x.shape (words_of x.shape x.len (enc z))) p.at (p.at + x.len) s))
           (kinds ∙ ap (kind_of x.shape) (sym (enc-thin words (spells-thin (past_of p) x.shape w words (enc rest) b.spells).1)))
           (ap (λ n. p.at + n) (len ∙ size))
           (entered-fresh p s x (kind_of x.shape (words_of x.shape x.len (enc z))) (p.at + x.len) (m.sync none g) m.bars_is says)
@@ -195,10 +195,10 @@ module _ (p : Place) (s : State) (z : List ℕ) (m : Matches p s z) (none : p.st
   -- ---- a `.` or `&.` that goes on with the line before
 
   abbrev dotted : Shape → ℕ → Lexeme
-  dotted d n = record { shape = d; len = n; before = behind_operator s.look.before d; keeps = is_closing d || names_method s.look.before }
+  dotted d n = record { shape = d; len = n; before = after_operator s.look.before d; keeps = is_closing d || names_method s.look.before }
 
   abbrev joint : Shape → ℕ → State
-  joint d n = entered (record (dotted d n) { before = behind_operator s.last d; keeps = names_method s.last }) (pushed (kind_of d (words_of d n (enc z))) p.at (p.at + n) (record s { tokens = take s.mark s.tokens }))
+  joint d n = entered (record (dotted d n) { before = after_operator s.last d; keeps = names_method s.last }) (pushed (kind_of d (words_of d n (enc z))) p.at (p.at + n) (record s { tokens = take s.mark s.tokens }))
 
   on-step : (d : Shape) (n : ℕ) (x : Lexeme) (w words rest : List ℕ) → x.shape ≡ d → x.len ≡ n → Best (past_of p) (enc z) x.shape w words (enc rest) → w ++ rest ≡ z → x.len ≡ length w → kind_of x.shape (words_of x.shape x.len (enc z)) ≡ kind_of x.shape words
       → (IsForeign (past_of p) s.look.is_blank s.look.is_fresh (enc z) → ⊥) → (IsWrong (past_of p) s.look.is_blank (enc z) → ⊥)
@@ -230,7 +230,7 @@ module _ (p : Place) (s : State) (z : List ℕ) (m : Matches p s z) (none : p.st
 
       fresh : Fresh (past_of (spelt x.shape w words p)) (spelt x.shape w words p).tokens (joint d n)
       fresh =
-          behind-fresh p x.shape w words (kind_of d (words_of d n (enc z))) (p.at + n) (joint d n) kind_is (ap (λ k. p.at + k) (sym len_is ∙ len ∙ size))
+          after-fresh p x.shape w words (kind_of d (words_of d n (enc z))) (p.at + n) (joint d n) kind_is (ap (λ k. p.at + k) (sym len_is ∙ len ∙ size))
           (subst (λ t. Fresh (t ∷ past_of p) (p.tokens ++ token_at (kind_of d (words_of d n (enc z))) p.at (p.at + n) ∷ []) (joint d n)) (sym shape_is) f)
 
   cut_shape : Cut → Shape
@@ -241,14 +241,14 @@ module _ (p : Place) (s : State) (z : List ℕ) (m : Matches p s z) (none : p.st
   cut_len (cuts.Token x) = x.len
   cut_len _ = 0
 
-  on-next : (d : Shape) (n : ℕ) → ((look : Look) → cut_of look (enc z) ≡ token d n (behind_operator look.before d) (is_closing d || names_method look.before)) → continues d (drop n (enc z)) ≡ true → same_shape d shape.CloseBrace ≡ false
+  on-next : (d : Shape) (n : ℕ) → ((look : Look) → cut_of look (enc z) ≡ token d n (after_operator look.before d) (is_closing d || names_method look.before)) → continues d (drop n (enc z)) ≡ true → same_shape d shape.CloseBrace ≡ false
       → Fresh (d ∷ past_of p) (p.tokens ++ token_at (kind_of d (words_of d n (enc z))) p.at (p.at + n) ∷ []) (joint d n) → Next p s z
   unfolding cut_shape cut_len
   on-next d n cut goes brace f =
       let look : Look = record s.look { before = before_of (past_of p) } in
       by (cut_of look (enc z)) (cut look) (seen (past_of p) look (enc z) refl (other-bytes z o))
     where
-      by : (c : Cut) → c ≡ token d n (behind_operator (before_of (past_of p)) d) (is_closing d || names_method (before_of (past_of p))) → Seen (past_of p) (record s.look { before = before_of (past_of p) }) (enc z) c → Next p s z
+      by : (c : Cut) → c ≡ token d n (after_operator (before_of (past_of p)) d) (is_closing d || names_method (before_of (past_of p))) → Seen (past_of p) (record s.look { before = before_of (past_of p) }) (enc z) c → Next p s z
       by _ e (Seen.Token x w words y b len kinds says nf nw) =
           let q = enc-parts w z y (spells-thin (past_of p) x.shape w words y b.spells).0 (sym b.whole) in
           on-step d n x w words q.0 (ap cut_shape e) (ap cut_len e) (subst (Best (past_of p) (enc z) x.shape w words) q.2 b) (sym q.1) len kinds nf nw (cut s.look) goes brace f

@@ -66,7 +66,7 @@ front-len a b = let e = length-append a (46 ∷ b) in omega arith
 regroup : (a b x : List ℕ) → (a ++ 46 ∷ b) ++ x ≡ a ++ 46 ∷ (b ++ x)
 regroup a b x = append_assoc a (46 ∷ b) x
 
--- an exponent behind the digits that are found
+-- an exponent after the digits that are found
 float-exact : (a b x : List ℕ) → AreDigits (is_in set.Decimal) a → AreDigits (is_in set.Decimal) b → goes_on set.Decimal x ≡ false → float_len (a ++ 46 ∷ (b ++ x)) ≡ length (a ++ 46 ∷ b) + exponent_len x
 float-exact a b x ha hb stops =
     let z = a ++ 46 ∷ (b ++ x) in
@@ -159,7 +159,7 @@ number-like past d u h t v os more e sp = of-kind past t v os more d u Kind.Digi
 number-own : (d : ℕ) (u : List ℕ) → is_in set.Decimal d ≡ true → (n : ℕ) (v more : List ℕ) → v ++ more ≡ d ∷ u → Holds v FOREIGN_OPERATORS → length v < n
 number-own d u h n v more e held = no-foreign v more d u Kind.Digit held e (kind-digit d h) (λ k. absurd (cc))
 
--- behind `0x`, `0b` and `0o` there is no fraction
+-- after `0x`, `0b` and `0o` there is no fraction
 bare : (c : ℕ) (z : List ℕ) → (is_in set.Decimal c || (c == 95 && is_in set.Decimal (slice_index z 0))) ≡ false → (c == 46) ≡ false → float_len (48 ∷ c ∷ z) ≡ 0
 bare c z stops dot =
     let more : more_digits set.Decimal (c ∷ z) ≡ 0 = if-false (is_in set.Decimal c || (c == 95 && is_in set.Decimal (slice_index z 0))) (1 + more_digits set.Decimal z) 0 stops in

@@ -10,7 +10,7 @@ use Rattle.rb_lex.specs.Chars.{is_in, run_len, begins_name, is_upper, is_letter,
 use Rattle.rb_lex.specs.Words.{word_of, identifier_len, is_labelled, symbol_len}
 use Rattle.rb_lex.specs.Numbers.{spelling_of, is_foreign, fits, digits_in}
 use Rattle.rb_lex.specs.Operators.{operator, method_name}
-use Rattle.rb_lex.specs.Cuts.{names_method, is_operand_end, is_constant, is_behind_dot, is_strange_opening, begins_here_document, is_outside, is_bad, token, keyword, label, number, variable, judged, sign_at, sign, colon, name, constant, mark, cut_of, ends_program}
+use Rattle.rb_lex.specs.Cuts.{names_method, is_operand_end, is_constant, is_after_dot, is_strange_opening, begins_here_document, is_outside, is_bad, token, keyword, label, number, variable, judged, sign_at, sign, colon, name, constant, mark, cut_of, ends_program}
 use Rattle.rb_lex.specs.declared.operator.Sign.{Sign}
 use Rattle.rb_lex.specs.declared.operator.Sign.TheVariants as signs
 use Rattle.rb_lex.specs.declared.chars.Set.TheVariants as set
@@ -22,7 +22,7 @@ use Rattle.rb_lex.specs.declared.cut.Cut.TheVariants as cuts
 use Rattle.rb_lex.specs.declared.word.Word.{Word}
 use Rattle.rb_lex.specs.declared.word.Word.TheVariants as word
 use Rattle.rb_rules.specs.Spellings.{Begins, Holds, IsNamed, IsIdentifier, IsConstant, OPERATORS, METHOD_OPERATORS, FOREIGN_WORDS, FOREIGN_OPERATORS}
-use Rattle.rb_rules.specs.Before.{NamesMethod, IsOperandEnd, IsBehindConstant, IsBehindDot}
+use Rattle.rb_rules.specs.Before.{NamesMethod, IsOperandEnd, IsAfterConstant, IsAfterDot}
 use Rattle.rb_rules.specs.Lexes.{Spells, IsLongest, IsSpaced, EndsLine, IsWholeName, IsForeign, IsWrong}
 use Rattle.rb_lex_laws.proofs.Lists.{if-true, if-false, both-and, left-or, right-or, not-of, no-both, eq-is, not-eq, take-front, false-of, begins-is, is-begins, on-begins}
 use Rattle.rb_lex_laws.proofs.Best.{best-same}
@@ -193,31 +193,31 @@ zero-rest look d rest h =
 
 -- ---- a word outside the profile
 
-word-cut : (b : Before) (w rest : List ℕ) → identifier_len (w ++ rest) ≡ length w → is_labelled (w ++ rest) (length w) ≡ false → is_behind_dot b ≡ false → word_of w ≡ word.Foreign → name b (w ++ rest) ≡ cuts.Outside
+word-cut : (b : Before) (w rest : List ℕ) → identifier_len (w ++ rest) ≡ length w → is_labelled (w ++ rest) (length w) ≡ false → is_after_dot b ≡ false → word_of w ≡ word.Foreign → name b (w ++ rest) ≡ cuts.Outside
 unfolding name
 word-cut b w rest len no_label no_dot known =
     let z = w ++ rest in
     let C : ℕ → Cut = λ n.
     if is_labelled z n then label n
-    else (if is_behind_dot b then token shape.Identifier n before.Name true
+    else (if is_after_dot b then token shape.Identifier n before.Name true
     else (elim (word_of (take n z)) [ word.Free ↦ token shape.Identifier n before.Name true | word.Keyword s ↦ keyword b s n | word.Foreign ↦ cuts.Outside ])) in
     ap C len ∙ if-false (is_labelled z (length w)) (label (length w)) _ no_label
-    ∙ if-false (is_behind_dot b) (token shape.Identifier (length w) before.Name true) _ no_dot
+    ∙ if-false (is_after_dot b) (token shape.Identifier (length w) before.Name true) _ no_dot
     ∙ ap (λ (x : Word). elim x [ word.Free ↦ token shape.Identifier (length w) before.Name true | word.Keyword s ↦ keyword b s (length w) | word.Foreign ↦ cuts.Outside ]) (ap word_of (take-front w rest) ∙ known)
 
-constant-cut : (b : Before) (w rest : List ℕ) → run_len set.Word (w ++ rest) ≡ length w → is_labelled (w ++ rest) (length w) ≡ false → is_behind_dot b ≡ false → word_of w ≡ word.Foreign → constant b (w ++ rest) ≡ cuts.Outside
+constant-cut : (b : Before) (w rest : List ℕ) → run_len set.Word (w ++ rest) ≡ length w → is_labelled (w ++ rest) (length w) ≡ false → is_after_dot b ≡ false → word_of w ≡ word.Foreign → constant b (w ++ rest) ≡ cuts.Outside
 unfolding constant
 constant-cut b w rest len no_label no_dot known =
     let z = w ++ rest in
     let C : ℕ → Cut = λ n.
     if is_labelled z n then label n
-    else (if is_behind_dot b then token shape.Constant n before.Constant true
+    else (if is_after_dot b then token shape.Constant n before.Constant true
     else (elim (word_of (take n z)) [ word.Foreign ↦ cuts.Outside | word.Free ↦ token shape.Constant n before.Constant true | word.Keyword s ↦ token shape.Constant n before.Constant true ])) in
     ap C len ∙ if-false (is_labelled z (length w)) (label (length w)) _ no_label
-    ∙ if-false (is_behind_dot b) (token shape.Constant (length w) before.Constant true) _ no_dot
+    ∙ if-false (is_after_dot b) (token shape.Constant (length w) before.Constant true) _ no_dot
     ∙ ap (λ (x : Word). elim x [ word.Foreign ↦ cuts.Outside | word.Free ↦ token shape.Constant (length w) before.Constant true | word.Keyword s ↦ token shape.Constant (length w) before.Constant true ]) (ap word_of (take-front w rest) ∙ known)
 
--- a name with no label behind it
+-- a name with no label after it
 free-label : (w rest : List ℕ) → (Begins 58 rest → Begins 58 (drop 1 rest)) → is_labelled (w ++ rest) (length w) ≡ false
 free-label w rest h = labelled-front w rest ∙ by (slice_index rest 0 == 58) refl (slice_index rest 1 == 58) refl
   where
@@ -235,11 +235,11 @@ identifier-head w _ (IsIdentifier.Plain _ rest h) = named-head begins_name w res
 identifier-head _ _ (IsIdentifier.Asking w rest h free) = ap (λ z. begins_name (slice_index z 0)) (append_assoc w (63 ∷ []) rest) ∙ named-head begins_name w (63 ∷ rest) h
 identifier-head _ _ (IsIdentifier.Shouting w rest h free) = ap (λ z. begins_name (slice_index z 0)) (append_assoc w (33 ∷ []) rest) ∙ named-head begins_name w (33 ∷ rest) h
 
-word-rest : (past : List Shape) (look : Look) → look.before ≡ before_of past → (w rest : List ℕ) → IsWholeName w rest → Holds w FOREIGN_WORDS → ¬ IsBehindDot past → rest_cut look (w ++ rest) ≡ cuts.Outside
+word-rest : (past : List Shape) (look : Look) → look.before ≡ before_of past → (w rest : List ℕ) → IsWholeName w rest → Holds w FOREIGN_WORDS → ¬ IsAfterDot past → rest_cut look (w ++ rest) ≡ cuts.Outside
 word-rest past look is w rest whole held dot = by whole.named
   where
-    no_dot : is_behind_dot look.before ≡ false
-    no_dot = false-of (is_behind_dot look.before) (λ e. dot ((dot-asked past).0 (ap is_behind_dot (sym is) ∙ e)))
+    no_dot : is_after_dot look.before ≡ false
+    no_dot = false-of (is_after_dot look.before) (λ e. dot ((dot-asked past).0 (ap is_after_dot (sym is) ∙ e)))
 
     by : (IsIdentifier w rest ⊎ IsConstant w) → rest_cut look (w ++ rest) ≡ cuts.Outside
     by (inl id) =
@@ -359,7 +359,7 @@ foreign-other past blank start _ (IsForeign.HereDocument w rest l ends b here) =
 foreign-other past blank start _ (IsForeign.QuestionAtOperand rest ends) = begun-other 63 rest (refl, (refl, (refl, (refl, (refl, (refl, (refl, (refl, tt))))))))
 foreign-other past blank start _ (IsForeign.QuestionTouched rest spaced) = begun-other 63 rest (refl, (refl, (refl, (refl, (refl, (refl, (refl, (refl, tt))))))))
 foreign-other past blank start _ (IsForeign.ColonTouched c rest l bar other spaced) = begun-other 58 (c ∷ rest) (refl, (refl, (refl, (refl, (refl, (refl, (refl, (refl, tt))))))))
-foreign-other past blank start _ (IsForeign.ParenBehindConstant rest constant b) = begun-other 40 rest (refl, (refl, (refl, (refl, (refl, (refl, (refl, (refl, tt))))))))
+foreign-other past blank start _ (IsForeign.ParenAfterConstant rest constant b) = begun-other 40 rest (refl, (refl, (refl, (refl, (refl, (refl, (refl, (refl, tt))))))))
 foreign-other past blank start _ (IsForeign.ZeroAndDigit d rest h) = begun-other 48 (d ∷ rest) (refl, (refl, (refl, (refl, (refl, (refl, (refl, (refl, tt))))))))
 foreign-other past blank start _ (IsForeign.NumberAndLetter s w rest c held l letter) = spells-other past s w w (c ∷ rest) l.spells
 foreign-other past blank start _ (IsForeign.LargeNumber w rest l large) = spells-other past shape.Whole w w rest l.spells
@@ -370,8 +370,8 @@ foreign-other past blank start _ (IsForeign.ForeignWord w rest whole held dot) =
     by (inr h) = begin-other w rest (constant-begin w h)
 
 pub wrong-other : (past : List Shape) (blank : Bool) (y : List ℕ) → IsWrong past blank y → Other y
-wrong-other past blank _ (IsWrong.Ambiguous s w rest l held behind b spaced) = spells-other past s w [] rest l.spells
-wrong-other past blank _ (IsWrong.ParenBehindBlank rest behind b) = begun-other 40 rest (refl, (refl, (refl, (refl, (refl, (refl, (refl, (refl, tt))))))))
+wrong-other past blank _ (IsWrong.Ambiguous s w rest l held after b spaced) = spells-other past s w [] rest l.spells
+wrong-other past blank _ (IsWrong.ParenAfterBlank rest after b) = begun-other 40 rest (refl, (refl, (refl, (refl, (refl, (refl, (refl, (refl, tt))))))))
 wrong-other past blank _ (IsWrong.NoToken c z spelt blanks marks) =
     record {
       first = c;
@@ -454,7 +454,7 @@ module _ (past : List Shape) (look : Look) (is : look.before ≡ before_of past)
       by (inl e) = left-or (not (is_operand_end look.before)) (not (is_spaced rest)) (not-of (is_operand_end look.before) e)
       by (inr e) = right-or (not (is_operand_end look.before)) (not (is_spaced rest)) (not-of (is_spaced rest) e)
 
-  paren-outside : (rest : List ℕ) → IsBehindConstant past → look.is_blank ≡ false → is_outside look shape.OpenParen rest ≡ true
+  paren-outside : (rest : List ℕ) → IsAfterConstant past → look.is_blank ≡ false → is_outside look shape.OpenParen rest ≡ true
   paren-outside rest constant blank =
       last-or (is_strange_opening shape.OpenParen && not (is_operand_end look.before) && not (names_method look.before)) (same_shape shape.OpenParen shape.ShiftLeft && is_operand_end look.before && look.is_blank && begins_here_document rest) (same_shape shape.OpenParen shape.Question && (not (is_operand_end look.before) || not (is_spaced rest))) (same_shape shape.OpenParen shape.OpenParen && is_constant look.before && not look.is_blank)
       (all-three (same_shape shape.OpenParen shape.OpenParen) (is_constant look.before) (not look.is_blank) (is-same shape.OpenParen shape.OpenParen refl) (ap is_constant is ∙ (constant-asked past).1 constant) (not-of look.is_blank blank))
@@ -480,7 +480,7 @@ module _ (past : List Shape) (look : Look) (is : look.before ≡ before_of past)
   foreign-rest_cut _ none (IsForeign.QuestionAtOperand rest ends) shown = question-rest look rest ∙ sign-question look rest ∙ judged-outside look shape.Question 1 rest (question-outside rest (inl (end-false ends)))
   foreign-rest_cut _ none (IsForeign.QuestionTouched rest spaced) shown = question-rest look rest ∙ sign-question look rest ∙ judged-outside look shape.Question 1 rest (question-outside rest (inr (not-spaced rest spaced)))
   foreign-rest_cut _ none (IsForeign.ColonTouched c rest l bar other spaced) shown = colon-rest look c rest l bar other spaced
-  foreign-rest_cut _ none (IsForeign.ParenBehindConstant rest constant b) shown = paren-rest look rest ∙ sign-paren look rest ∙ judged-outside look shape.OpenParen 1 rest (paren-outside rest constant b)
+  foreign-rest_cut _ none (IsForeign.ParenAfterConstant rest constant b) shown = paren-rest look rest ∙ sign-paren look rest ∙ judged-outside look shape.OpenParen 1 rest (paren-outside rest constant b)
   foreign-rest_cut _ none (IsForeign.ZeroAndDigit d rest h) shown = zero-rest look d rest h
   foreign-rest_cut _ none (IsForeign.NumberAndLetter s w rest c held l letter) shown =
       longest-number (w ++ c ∷ rest) s w (c ∷ rest) refl l held (λ p. no-both (is_letter c) letter (p.apart held)) (rest_cut look (w ++ c ∷ rest)) shown

@@ -155,7 +155,7 @@ module _ (past : List Shape) (blank start : Bool) where
   foreign-bytes _ (IsForeign.QuestionAtOperand rest ends) = subst (IsForeign past blank start) (sym (enc-cons 63 rest (omega arith))) (IsForeign.QuestionAtOperand (enc rest) ends)
   foreign-bytes _ (IsForeign.QuestionTouched rest spaced) = subst (IsForeign past blank start) (sym (enc-cons 63 rest (omega arith))) (IsForeign.QuestionTouched (enc rest) (not-spaced-bytes rest spaced))
   foreign-bytes _ (IsForeign.ColonTouched c rest l bar other spaced) = colon-bytes c rest l bar other spaced
-  foreign-bytes _ (IsForeign.ParenBehindConstant rest constant b) = subst (IsForeign past blank start) (sym (enc-cons 40 rest (omega arith))) (IsForeign.ParenBehindConstant (enc rest) constant b)
+  foreign-bytes _ (IsForeign.ParenAfterConstant rest constant b) = subst (IsForeign past blank start) (sym (enc-cons 40 rest (omega arith))) (IsForeign.ParenAfterConstant (enc rest) constant b)
   foreign-bytes _ (IsForeign.ZeroAndDigit d rest h) = subst (IsForeign past blank start) (sym (enc-cons 48 (d ∷ rest) (omega arith) ∙ ap (λ y. 48 ∷ y) (enc-cons d rest (digit-low d h)))) (IsForeign.ZeroAndDigit d (enc rest) h)
   foreign-bytes _ (IsForeign.NumberAndLetter s w rest c held l letter) =
       let one = enc-cons c rest (letter-low c letter) in
@@ -195,7 +195,7 @@ module _ (past : List Shape) (blank start : Bool) where
       let p = enc-first z 63 rest (omega arith) (sym e) in subst (IsForeign past blank start) (sym p.1) (IsForeign.QuestionTouched p.0 (not-spaced-chars p.0 (subst (λ y. ¬ IsSpaced y) p.2 spaced)))
   foreign-chars z _ (IsForeign.ColonTouched c rest l bar other spaced) e =
       let p = enc-first z 58 (c ∷ rest) (omega arith) (sym e) in subst (IsForeign past blank start) (sym p.1) (colon-chars p.0 c rest l bar other spaced p.2)
-  foreign-chars z _ (IsForeign.ParenBehindConstant rest constant b) e = let p = enc-first z 40 rest (omega arith) (sym e) in subst (IsForeign past blank start) (sym p.1) (IsForeign.ParenBehindConstant p.0 constant b)
+  foreign-chars z _ (IsForeign.ParenAfterConstant rest constant b) e = let p = enc-first z 40 rest (omega arith) (sym e) in subst (IsForeign past blank start) (sym p.1) (IsForeign.ParenAfterConstant p.0 constant b)
   foreign-chars z _ (IsForeign.ZeroAndDigit d rest h) e =
       let p = enc-first z 48 (d ∷ rest) (omega arith) (sym e) in
       let q = enc-first p.0 d rest (digit-low d h) (sym p.2) in
@@ -237,19 +237,19 @@ module _ (past : List Shape) (blank : Bool) where
       same l = let p = enc-first (c ∷ z) b y l e in sym (head-same c b z p.0 p.1)
 
   pub wrong-bytes : (z : List ℕ) → IsWrong past blank z → IsWrong past blank (enc z)
-  wrong-bytes _ (IsWrong.Ambiguous s w rest l held behind b spaced) =
-      subst (IsWrong past blank) (sym (enc-front w rest (spells-thin past s w [] rest l.spells).0)) (IsWrong.Ambiguous s w (enc rest) (longest-bytes past s w [] rest l) held behind b (not-spaced-bytes rest spaced))
-  wrong-bytes _ (IsWrong.ParenBehindBlank rest behind b) = subst (IsWrong past blank) (sym (enc-cons 40 rest (omega arith))) (IsWrong.ParenBehindBlank (enc rest) behind b)
+  wrong-bytes _ (IsWrong.Ambiguous s w rest l held after b spaced) =
+      subst (IsWrong past blank) (sym (enc-front w rest (spells-thin past s w [] rest l.spells).0)) (IsWrong.Ambiguous s w (enc rest) (longest-bytes past s w [] rest l) held after b (not-spaced-bytes rest spaced))
+  wrong-bytes _ (IsWrong.ParenAfterBlank rest after b) = subst (IsWrong past blank) (sym (enc-cons 40 rest (omega arith))) (IsWrong.ParenAfterBlank (enc rest) after b)
   wrong-bytes _ (IsWrong.NoToken c z spelt blanks marks) =
       let p = enc-some c z in
       subst (IsWrong past blank) (sym p.2)
       (IsWrong.NoToken p.0 p.1 (λ s w words rest e. no-spell c z spelt s w words rest (e ∙ sym p.2)) (λ w rest e. no-blank c z blanks w rest (e ∙ sym p.2)) (no-mark c z p.0 p.1 p.2 marks))
 
   pub wrong-chars : (z y : List ℕ) → IsWrong past blank y → y ≡ enc z → IsWrong past blank z
-  wrong-chars z _ (IsWrong.Ambiguous s w rest l held behind b spaced) e =
+  wrong-chars z _ (IsWrong.Ambiguous s w rest l held after b spaced) e =
       let p = enc-parts w z rest (spells-thin past s w [] rest l.spells).0 (sym e) in
-      subst (IsWrong past blank) (sym p.1) (IsWrong.Ambiguous s w p.0 (longest-chars past s w [] p.0 (subst (IsLongest past s w []) p.2 l)) held behind b (not-spaced-chars p.0 (subst (λ y. ¬ IsSpaced y) p.2 spaced)))
-  wrong-chars z _ (IsWrong.ParenBehindBlank rest behind b) e = let p = enc-first z 40 rest (omega arith) (sym e) in subst (IsWrong past blank) (sym p.1) (IsWrong.ParenBehindBlank p.0 behind b)
+      subst (IsWrong past blank) (sym p.1) (IsWrong.Ambiguous s w p.0 (longest-chars past s w [] p.0 (subst (IsLongest past s w []) p.2 l)) held after b (not-spaced-chars p.0 (subst (λ y. ¬ IsSpaced y) p.2 spaced)))
+  wrong-chars z _ (IsWrong.ParenAfterBlank rest after b) e = let p = enc-first z 40 rest (omega arith) (sym e) in subst (IsWrong past blank) (sym p.1) (IsWrong.ParenAfterBlank p.0 after b)
   wrong-chars [] _ (IsWrong.NoToken c y spelt blanks marks) e = absurd (cc)
   wrong-chars (d ∷ z) _ (IsWrong.NoToken c y spelt blanks marks) e =
       IsWrong.NoToken d z

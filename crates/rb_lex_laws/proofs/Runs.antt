@@ -111,7 +111,7 @@ name-of z h =
 pub constant-of : (z : List ℕ) → is_upper (slice_index z 0) ≡ true → IsConstant ((run-of set.Word z).run)
 constant-of z h = let m = run-of set.Word z in begun is_upper m.run m.rest z upper-in m.whole h m.all m.stops
 
--- the name behind a `@`
+-- the name after a `@`
 pub word-of : (z : List ℕ) → begins_name (slice_index z 0) ≡ true → IsNamed begins_name ((run-of set.Word z).run)
 word-of z h = let m = run-of set.Word z in begun begins_name m.run m.rest z lower-in m.whole h m.all m.stops
 

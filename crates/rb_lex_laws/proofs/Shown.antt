@@ -5,7 +5,7 @@ use Rattle.rb_tree.specs.Tokens.{same_shape, plain_kind}
 use Rattle.rb_tree.specs.declared.token.Shape.{Shape}
 use Rattle.rb_tree.specs.declared.token.Shape.TheVariants as shape
 use Rattle.rb_lex.specs.Chars.{is_letter, is_spaced}
-use Rattle.rb_lex.specs.Cuts.{names_method, is_operand_end, is_constant, begins_here_document, is_name, is_strange_opening, is_ambiguous, is_outside, is_bad, behind_keyword, behind_operator, is_closing}
+use Rattle.rb_lex.specs.Cuts.{names_method, is_operand_end, is_constant, begins_here_document, is_name, is_strange_opening, is_ambiguous, is_outside, is_bad, after_keyword, after_operator, is_closing}
 use Rattle.rb_lex.specs.Lexed.{words_of, kind_of}
 use Rattle.rb_lex.specs.declared.cut.Before.{Before}
 use Rattle.rb_lex.specs.declared.cut.Look.{Look}
@@ -16,7 +16,7 @@ use Rattle.rb_rules.specs.Spellings.{Holds, KEYWORDS, OPERATORS, METHOD_OPERATOR
 use Rattle.rb_rules.specs.Numerals.{value_of}
 use Rattle.rb_rules.specs.Lexes.{Spells, IsForeign}
 use Rattle.rb_lex_laws.proofs.Lists.{no-both}
-use Rattle.rb_lex_laws.proofs.Past.{before_behind, before_of, keeps_behind, held, holds-held}
+use Rattle.rb_lex_laws.proofs.Past.{before_after, before_of, keeps_after, held, holds-held}
 use Rattle.rb_lex_laws.proofs.Best.{Best}
 use Rattle.rb_lex_laws.proofs.Rows.{EachRow, at-row}
 
@@ -32,8 +32,8 @@ pub record Passes (look : Look) (s : Shape) (w rest : List ℕ) : Type 0 where
 
 -- what it says about the next one
 pub record Says (past : List Shape) (s : Shape) (x : Lexeme) : Type 0 where
-  pub before_is : x.before ≡ before_behind (before_of past) s
-  pub keeps_is : (bars : Bool) → (x.keeps || (same_shape s shape.Pipe && bars)) ≡ keeps_behind (names_method (before_of past)) bars s
+  pub before_is : x.before ≡ before_after (before_of past) s
+  pub keeps_is : (bars : Bool) → (x.keeps || (same_shape s shape.Pipe && bars)) ≡ keeps_after (names_method (before_of past)) bars s
 
 pub data Shown (past : List Shape) (look : Look) (y : List ℕ) : Cut → Type 0 where
   Token : (x : Lexeme) (w words rest : List ℕ) → Best past y x.shape w words rest → x.len ≡ length w → kind_of x.shape (words_of x.shape x.len y) ≡ kind_of x.shape words → Says past x.shape x → Passes look x.shape w rest → Shown past look y (cuts.Token x)
@@ -126,50 +126,50 @@ keyword-quiet = (record { judged = refl; number = refl }, (record { judged = ref
 pub keywords-quiet : (s : Shape) (w : List ℕ) → Holds (s, w) KEYWORDS → Quiet s
 keywords-quiet s w h = at-row (λ (row : Shape × List ℕ). Quiet row.0) (s, w) KEYWORDS keyword-quiet h
 
-keyword-before : EachRow (λ (row : Shape × List ℕ). (b : Before) → behind_keyword b row.0 ≡ before_behind b row.0) KEYWORDS
+keyword-before : EachRow (λ (row : Shape × List ℕ). (b : Before) → after_keyword b row.0 ≡ before_after b row.0) KEYWORDS
 unfolding same_shape
 keyword-before = ((λ b. refl), ((λ b. refl), ((λ b. refl), ((λ b. refl), ((λ b. refl), ((λ b. refl), ((λ b. refl), ((λ b. refl), ((λ b. refl), ((λ b. refl), ((λ b. refl), ((λ b. refl), ((λ b. refl), ((λ b. refl), ((λ b. refl), ((λ b. refl), ((λ b. refl), ((λ b. refl), ((λ b. refl), ((λ b. refl), ((λ b. refl), ((λ b. refl), ((λ b. refl), ((λ b. refl), ((λ b. refl), ((λ b. refl), tt))))))))))))))))))))))))))
 
-keyword-keeps : EachRow (λ (row : Shape × List ℕ). (names bars : Bool) → true ≡ keeps_behind names bars row.0) KEYWORDS
+keyword-keeps : EachRow (λ (row : Shape × List ℕ). (names bars : Bool) → true ≡ keeps_after names bars row.0) KEYWORDS
 unfolding same_shape
 keyword-keeps = ((λ names bars. refl), ((λ names bars. refl), ((λ names bars. refl), ((λ names bars. refl), ((λ names bars. refl), ((λ names bars. refl), ((λ names bars. refl), ((λ names bars. refl), ((λ names bars. refl), ((λ names bars. refl), ((λ names bars. refl), ((λ names bars. refl), ((λ names bars. refl), ((λ names bars. refl), ((λ names bars. refl), ((λ names bars. refl), ((λ names bars. refl), ((λ names bars. refl), ((λ names bars. refl), ((λ names bars. refl), ((λ names bars. refl), ((λ names bars. refl), ((λ names bars. refl), ((λ names bars. refl), ((λ names bars. refl), ((λ names bars. refl), tt))))))))))))))))))))))))))
 
-pub keyword-says : (past : List Shape) (s : Shape) (w : List ℕ) (n : ℕ) → Holds (s, w) KEYWORDS → Says past s (record { shape = s; len = n; before = behind_keyword (before_of past) s; keeps = true })
+pub keyword-says : (past : List Shape) (s : Shape) (w : List ℕ) (n : ℕ) → Holds (s, w) KEYWORDS → Says past s (record { shape = s; len = n; before = after_keyword (before_of past) s; keeps = true })
 keyword-says past s w n h =
     record {
-      before_is = at-row (λ (row : Shape × List ℕ). (b : Before) → behind_keyword b row.0 ≡ before_behind b row.0) (s, w) KEYWORDS keyword-before h (before_of past);
-      keeps_is = λ bars. at-row (λ (row : Shape × List ℕ). (names bars : Bool) → true ≡ keeps_behind names bars row.0) (s, w) KEYWORDS keyword-keeps h (names_method (before_of past)) bars;
+      before_is = at-row (λ (row : Shape × List ℕ). (b : Before) → after_keyword b row.0 ≡ before_after b row.0) (s, w) KEYWORDS keyword-before h (before_of past);
+      keeps_is = λ bars. at-row (λ (row : Shape × List ℕ). (names bars : Bool) → true ≡ keeps_after names bars row.0) (s, w) KEYWORDS keyword-keeps h (names_method (before_of past)) bars;
     }
 
-operator-before : EachRow (λ (row : Shape × List ℕ). (b : Before) → behind_operator b row.0 ≡ before_behind b row.0) OPERATORS
+operator-before : EachRow (λ (row : Shape × List ℕ). (b : Before) → after_operator b row.0 ≡ before_after b row.0) OPERATORS
 unfolding same_shape
 operator-before = ((λ b. refl), ((λ b. refl), ((λ b. refl), ((λ b. refl), ((λ b. refl), ((λ b. refl), ((λ b. refl), ((λ b. refl), ((λ b. refl), ((λ b. refl), ((λ b. refl), ((λ b. refl), ((λ b. refl), ((λ b. refl), ((λ b. refl), ((λ b. refl), ((λ b. refl), ((λ b. refl), ((λ b. refl), ((λ b. refl), ((λ b. refl), ((λ b. refl), ((λ b. refl), ((λ b. refl), ((λ b. refl), ((λ b. refl), ((λ b. refl), ((λ b. refl), ((λ b. refl), ((λ b. refl), ((λ b. refl), ((λ b. refl), ((λ b. refl), ((λ b. refl), ((λ b. refl), ((λ b. refl), ((λ b. refl), ((λ b. refl), ((λ b. refl), ((λ b. refl), ((λ b. refl), ((λ b. refl), ((λ b. refl), ((λ b. refl), ((λ b. refl), ((λ b. refl), ((λ b. refl), ((λ b. refl), ((λ b. refl), ((λ b. refl), tt))))))))))))))))))))))))))))))))))))))))))))))))))
 
-method-before : EachRow (λ (row : Shape × List ℕ). (b : Before) → behind_operator b row.0 ≡ before_behind b row.0) METHOD_OPERATORS
+method-before : EachRow (λ (row : Shape × List ℕ). (b : Before) → after_operator b row.0 ≡ before_after b row.0) METHOD_OPERATORS
 unfolding same_shape
 method-before = ((λ b. refl), ((λ b. refl), ((λ b. refl), ((λ b. refl), tt))))
 
-operator-keeps : EachRow (λ (row : Shape × List ℕ). (names bars : Bool) → ((is_closing row.0 || names) || (same_shape row.0 shape.Pipe && bars)) ≡ keeps_behind names bars row.0) OPERATORS
+operator-keeps : EachRow (λ (row : Shape × List ℕ). (names bars : Bool) → ((is_closing row.0 || names) || (same_shape row.0 shape.Pipe && bars)) ≡ keeps_after names bars row.0) OPERATORS
 unfolding same_shape
 operator-keeps = ((λ names bars. refl), ((λ names bars. refl), ((λ names bars. refl), ((λ names bars. refl), ((λ names bars. refl), ((λ names bars. refl), ((λ names bars. refl), ((λ names bars. refl), ((λ names bars. refl), ((λ names bars. refl), ((λ names bars. refl), ((λ names bars. refl), ((λ names bars. refl), ((λ names bars. refl), ((λ names bars. refl), ((λ names bars. refl), ((λ names bars. refl), ((λ names bars. refl), ((λ names bars. refl), ((λ names bars. refl), ((λ names bars. refl), ((λ names bars. refl), ((λ names bars. refl), ((λ names bars. refl), ((λ names bars. refl), ((λ names bars. refl), ((λ names bars. refl), ((λ names bars. refl), ((λ names bars. refl), ((λ names bars. refl), ((λ names bars. refl), ((λ names bars. refl), ((λ names bars. refl), ((λ names bars. refl), ((λ names bars. refl), ((λ names bars. refl), ((λ names bars. refl), ((λ names bars. refl), ((λ names bars. refl), ((λ names bars. refl), ((λ names bars. refl), ((λ names bars. refl), ((λ names bars. refl), ((λ names bars. refl), ((λ names bars. refl), ((λ names bars. refl), ((λ names bars. refl), ((λ names bars. refl), ((λ names bars. refl), ((λ names bars. refl), tt))))))))))))))))))))))))))))))))))))))))))))))))))
 
-method-keeps : EachRow (λ (row : Shape × List ℕ). (bars : Bool) → ((is_closing row.0 || true) || (same_shape row.0 shape.Pipe && bars)) ≡ keeps_behind true bars row.0) METHOD_OPERATORS
+method-keeps : EachRow (λ (row : Shape × List ℕ). (bars : Bool) → ((is_closing row.0 || true) || (same_shape row.0 shape.Pipe && bars)) ≡ keeps_after true bars row.0) METHOD_OPERATORS
 unfolding same_shape
 method-keeps = ((λ bars. refl), ((λ bars. refl), ((λ bars. refl), ((λ bars. refl), tt))))
 
-pub operator-says : (past : List Shape) (s : Shape) (w : List ℕ) (n : ℕ) → Holds (s, w) OPERATORS → Says past s (record { shape = s; len = n; before = behind_operator (before_of past) s; keeps = is_closing s || names_method (before_of past) })
+pub operator-says : (past : List Shape) (s : Shape) (w : List ℕ) (n : ℕ) → Holds (s, w) OPERATORS → Says past s (record { shape = s; len = n; before = after_operator (before_of past) s; keeps = is_closing s || names_method (before_of past) })
 operator-says past s w n h =
     record {
-      before_is = at-row (λ (row : Shape × List ℕ). (b : Before) → behind_operator b row.0 ≡ before_behind b row.0) (s, w) OPERATORS operator-before h (before_of past);
-      keeps_is = λ bars. at-row (λ (row : Shape × List ℕ). (names bars : Bool) → ((is_closing row.0 || names) || (same_shape row.0 shape.Pipe && bars)) ≡ keeps_behind names bars row.0) (s, w) OPERATORS operator-keeps h (names_method (before_of past)) bars;
+      before_is = at-row (λ (row : Shape × List ℕ). (b : Before) → after_operator b row.0 ≡ before_after b row.0) (s, w) OPERATORS operator-before h (before_of past);
+      keeps_is = λ bars. at-row (λ (row : Shape × List ℕ). (names bars : Bool) → ((is_closing row.0 || names) || (same_shape row.0 shape.Pipe && bars)) ≡ keeps_after names bars row.0) (s, w) OPERATORS operator-keeps h (names_method (before_of past)) bars;
     }
 
-pub method-says : (past : List Shape) (s : Shape) (w : List ℕ) (n : ℕ) → names_method (before_of past) ≡ true → Holds (s, w) METHOD_OPERATORS → Says past s (record { shape = s; len = n; before = behind_operator (before_of past) s; keeps = is_closing s || names_method (before_of past) })
+pub method-says : (past : List Shape) (s : Shape) (w : List ℕ) (n : ℕ) → names_method (before_of past) ≡ true → Holds (s, w) METHOD_OPERATORS → Says past s (record { shape = s; len = n; before = after_operator (before_of past) s; keeps = is_closing s || names_method (before_of past) })
 method-says past s w n names h =
     record {
-      before_is = at-row (λ (row : Shape × List ℕ). (b : Before) → behind_operator b row.0 ≡ before_behind b row.0) (s, w) METHOD_OPERATORS method-before h (before_of past);
-      keeps_is = λ bars. subst (λ t. ((is_closing s || t) || (same_shape s shape.Pipe && bars)) ≡ keeps_behind t bars s) (sym names)
-          (at-row (λ (row : Shape × List ℕ). (bars : Bool) → ((is_closing row.0 || true) || (same_shape row.0 shape.Pipe && bars)) ≡ keeps_behind true bars row.0) (s, w) METHOD_OPERATORS method-keeps h bars);
+      before_is = at-row (λ (row : Shape × List ℕ). (b : Before) → after_operator b row.0 ≡ before_after b row.0) (s, w) METHOD_OPERATORS method-before h (before_of past);
+      keeps_is = λ bars. subst (λ t. ((is_closing s || t) || (same_shape s shape.Pipe && bars)) ≡ keeps_after t bars s) (sym names)
+          (at-row (λ (row : Shape × List ℕ). (bars : Bool) → ((is_closing row.0 || true) || (same_shape row.0 shape.Pipe && bars)) ≡ keeps_after true bars row.0) (s, w) METHOD_OPERATORS method-keeps h bars);
     }
 
 -- the kind of a keyword or an operator carries no words

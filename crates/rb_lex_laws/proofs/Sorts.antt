@@ -11,7 +11,7 @@ use Rattle.rb_rules.specs.Spellings.IsIdentifier.{Plain, Asking, Shouting}
 use Rattle.rb_rules.specs.Spellings.AreDigits.{One, More, Parted}
 use Rattle.rb_rules.specs.Spellings.IsWhole.{Zero, Decimal, Hexadecimal, Binary, Octal}
 use Rattle.rb_rules.specs.Spellings.IsFloat.{Fraction}
-use Rattle.rb_rules.specs.Before.{IsBehindDot, NamesMethod}
+use Rattle.rb_rules.specs.Before.{IsAfterDot, NamesMethod}
 use Rattle.rb_rules.specs.Lexes.{IsWord, Spells}
 use Rattle.rb_lex_laws.proofs.Lists.{if-true, if-false, head-same}
 use Rattle.rb_lex_laws.proofs.Rows.{EachRow, at-row}
@@ -35,12 +35,12 @@ kind c =
 -- ---- the spellings of a kind
 
 pub data NameLike (past : List Shape) : Shape → List ℕ → List ℕ → List ℕ → Type 0 where
-  Identifier : (w rest : List ℕ) → IsIdentifier w rest → (IsBehindDot past ⊎ ¬ IsWord w) → NameLike past shape.Identifier w w rest
-  Keyword : (s : Shape) (w rest : List ℕ) → IsIdentifier w rest → Holds (s, w) KEYWORDS → ¬ IsBehindDot past → NameLike past s w [] rest
+  Identifier : (w rest : List ℕ) → IsIdentifier w rest → (IsAfterDot past ⊎ ¬ IsWord w) → NameLike past shape.Identifier w w rest
+  Keyword : (s : Shape) (w rest : List ℕ) → IsIdentifier w rest → Holds (s, w) KEYWORDS → ¬ IsAfterDot past → NameLike past s w [] rest
   Label : (w rest : List ℕ) → IsIdentifier w (58 ∷ rest) → ¬ Begins 58 rest → NameLike past shape.Label (w ++ 58 ∷ []) w rest
 
 pub data ConstantLike (past : List Shape) : Shape → List ℕ → List ℕ → List ℕ → Type 0 where
-  Constant : (w rest : List ℕ) → IsConstant w → (IsBehindDot past ⊎ ¬ IsWord w) → ConstantLike past shape.Constant w w rest
+  Constant : (w rest : List ℕ) → IsConstant w → (IsAfterDot past ⊎ ¬ IsWord w) → ConstantLike past shape.Constant w w rest
   Label : (w rest : List ℕ) → IsConstant w → ¬ Begins 58 rest → ConstantLike past shape.Label (w ++ 58 ∷ []) w rest
 
 pub data NumberLike : Shape → List ℕ → List ℕ → List ℕ → Type 0 where

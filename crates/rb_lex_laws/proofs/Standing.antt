@@ -1,4 +1,4 @@
--- Where tokens and refused places stand: at characters, one behind the other.
+-- Where tokens and refused places stand: at characters, one after the other.
 use Rattle.std.proofs.Common.{◌≡◌, ℕ, ◌+◌, ◌-◌, ◌<◌, ◌≤◌, ◌⊎◌, Bool, true, false, nat_le, List, [], ◌∷◌, ◌++◌, length, Option, Some, None, inl, inr, refl, sym, ap, subst, ◌∙◌, append_assoc, arith}
 use Rattle.std.specs.Char.{len_utf8}
 use Rattle.std.proofs.lemmas.List.Sums.{sum_by-append, sum_by-cons}
@@ -56,8 +56,8 @@ end-push from [] t = refl
 end-push from (u ∷ tokens) t = end-push u.span.end tokens t
 
 push : (text : List ℕ) (from : ℕ) (tokens : List Token) (t : Token) → StandInOrder text from tokens → end_of from tokens ≤ t.span.start → t.span.start ≤ t.span.end → IsStart text t.span.start → IsStart text t.span.end → StandInOrder text from (tokens ++ t ∷ [])
-push text from [] t h behind order start end = (behind, order, start, end, tt)
-push text from (u ∷ tokens) t h behind order start end = (h.0, h.1, h.2, h.3, push text u.span.end tokens t h.4 behind order start end)
+push text from [] t h after order start end = (after, order, start, end, tt)
+push text from (u ∷ tokens) t h after order start end = (h.0, h.1, h.2, h.3, push text u.span.end tokens t h.4 after order start end)
 
 abbrev limit : Place → ℕ
 limit p = elim p.string [ None ↦ p.at | Some o ↦ o.from ]
@@ -95,7 +95,7 @@ string-last text p z o s is = subst (λ x. end_of 0 p.tokens ≤ elim x [ None �
 no-string : {X : Type 0} (x : Option OpenString) (o : OpenString) → x ≡ None → x ≡ Some o → X
 no-string x o e f = absurd (cc)
 
--- behind characters that are no token
+-- after characters that are no token
 on : (text : List ℕ) (p : Place) (w rest : List ℕ) (start : Bool) → Stood text p (w ++ rest) → p.string ≡ None → Stood text (passed w start p) rest
 on text p w rest start s none =
     let last = code-last text p (w ++ rest) s none in
@@ -109,16 +109,16 @@ on text p w rest start s none =
       outer = s.outer;
     }
 
--- behind a token that ends where the next place is
+-- after a token that ends where the next place is
 token-on : (text : List ℕ) (p q : Place) (w rest : List ℕ) (t : Token) → Stood text p (w ++ rest) → q.at ≡ p.at + byte_len w → q.tokens ≡ p.tokens ++ t ∷ [] → q.string ≡ None → q.outer ≡ p.outer
     → end_of 0 p.tokens ≤ t.span.start → t.span.start ≤ t.span.end → IsStart text t.span.start → t.span.end ≡ q.at → Stood text q rest
-token-on text p q w rest t s at tokens none outer behind order start end =
+token-on text p q w rest t s at tokens none outer after order start end =
     let there : IsStart text q.at = subst (IsStart text) (sym at) (further text p w rest s) in
     record {
       front = s.front ++ w;
       whole = append_assoc s.front w rest ∙ s.whole;
       at_is = sum_by-append len_utf8 s.front w ∙ ap (λ n. n + byte_len w) s.at_is ∙ sym at;
-      tokens = subst (StandInOrder text 0) (sym tokens) (push text 0 p.tokens t s.tokens behind order start (subst (IsStart text) (sym end) there));
+      tokens = subst (StandInOrder text 0) (sym tokens) (push text 0 p.tokens t s.tokens after order start (subst (IsStart text) (sym end) there));
       last = subst (λ x. end_of 0 q.tokens ≤ elim x [ None ↦ q.at | Some o ↦ o.from ]) (sym none) (let e = ap (end_of 0) tokens ∙ end-push 0 p.tokens t ∙ end in omega arith);
       string = λ o e. no-string q.string o none e;
       outer = subst (AllStart text) (sym outer) s.outer;

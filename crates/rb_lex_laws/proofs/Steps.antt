@@ -8,9 +8,9 @@ use Rattle.rb_tree.specs.declared.token.Token.{Token}
 use Rattle.rb_tree.specs.declared.token.Shape.{Shape}
 use Rattle.rb_tree.specs.declared.token.Shape.TheVariants as shape
 use Rattle.rb_lex.specs.Chars.{is_in, run_len, line_len, is_letter}
-use Rattle.rb_lex.specs.Cuts.{names_method, is_closing, behind_operator, cut_of, token, judged, is_outside, is_bad, sign, sign_at, mark, ends_program, blanks_len}
+use Rattle.rb_lex.specs.Cuts.{names_method, is_closing, after_operator, cut_of, token, judged, is_outside, is_bad, sign, sign_at, mark, ends_program, blanks_len}
 use Rattle.rb_lex.specs.Operators.{operator, method_name}
-use Rattle.rb_lex.specs.Lexed.{behind_line, accepted, blanked, opened, code_step, string_step, step, lexed_from}
+use Rattle.rb_lex.specs.Lexed.{after_line, accepted, blanked, opened, code_step, string_step, step, lexed_from}
 use Rattle.rb_lex.specs.declared.chars.Set.TheVariants as set
 use Rattle.rb_lex.specs.declared.cut.Look.{Look}
 use Rattle.rb_lex.specs.declared.cut.Cut.{Cut}
@@ -41,7 +41,7 @@ abbrev by_cut : ℕ → List ℕ → State → Cut → Result (ℕ × State) Lex
 by_cut at z s cut =
     elim cut [
       | cuts.Blank len is_fresh ↦ Ok (len, blanked is_fresh s)
-      | cuts.Line ↦ Ok (1, behind_line at s)
+      | cuts.Line ↦ Ok (1, after_line at s)
       | cuts.Quote ↦ Ok (1, opened (slice_index z 0) at s)
       | cuts.Token x ↦ Ok (x.len, accepted x at z s)
       | cuts.Outside ↦ Err (Outside at)
@@ -176,8 +176,8 @@ line-cut : (look : Look) (y : List ℕ) → cut_of look (10 ∷ y) ≡ cuts.Line
 unfolding ends_program cut_of
 line-cut look y = if-false (look.is_fresh && ends_program (10 ∷ y)) cuts.Outside _ (no-ends look (10 ∷ y) refl)
 
-pub line-step : (y : List ℕ) (at : ℕ) (s : State) → s.string ≡ None → lexed_from 0 at s (10 ∷ y) ≡ lexed_from 0 (at + 1) (behind_line at s) y
-line-step y at s none = advance (10 ∷ []) y at s (behind_line at s) (omega arith) (code-cut at (10 ∷ y) s cuts.Line none (line-cut s.look y))
+pub line-step : (y : List ℕ) (at : ℕ) (s : State) → s.string ≡ None → lexed_from 0 at s (10 ∷ y) ≡ lexed_from 0 (at + 1) (after_line at s) y
+line-step y at s none = advance (10 ∷ []) y at s (after_line at s) (omega arith) (code-cut at (10 ∷ y) s cuts.Line none (line-cut s.look y))
 
 double-cut : (look : Look) (y : List ℕ) → cut_of look (34 ∷ y) ≡ cuts.Quote
 unfolding ends_program mark
@@ -193,12 +193,12 @@ quote-step quote y at s none (inr e) = advance (quote ∷ []) y at s (opened quo
 
 -- ---- operators of which no rule speaks
 
-plain-judged : (look : Look) (s : Shape) (n : ℕ) (rest : List ℕ) → is_outside look s rest ≡ false → is_bad look s rest ≡ false → judged look s n rest ≡ token s n (behind_operator look.before s) (is_closing s || names_method look.before)
+plain-judged : (look : Look) (s : Shape) (n : ℕ) (rest : List ℕ) → is_outside look s rest ≡ false → is_bad look s rest ≡ false → judged look s n rest ≡ token s n (after_operator look.before s) (is_closing s || names_method look.before)
 unfolding judged
 plain-judged look s n rest e f = if-false (is_outside look s rest) cuts.Outside _ e ∙ if-false (is_bad look s rest) cuts.Bad _ f
 
 abbrev OperatorToken : Look → Shape → ℕ → Cut
-OperatorToken look s n = token s n (behind_operator look.before s) (is_closing s || names_method look.before)
+OperatorToken look s n = token s n (after_operator look.before s) (is_closing s || names_method look.before)
 
 both-same : (t : Bool) (look : Look) (y : List ℕ) (s : Shape) (n : ℕ) → (elim (if t then signs.Operator s n else signs.Operator s n) [ signs.Nothing ↦ cuts.Bad | signs.Foreign ↦ cuts.Outside | signs.Operator s len ↦ judged look s len (drop len y) ]) ≡ judged look s n (drop n y)
 both-same true look y s n = refl

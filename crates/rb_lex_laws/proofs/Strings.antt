@@ -26,7 +26,7 @@ enc-len (c ∷ w) = let a = length-append (encode c) (enc w) in let b = length-e
 pub enc-none-len : length (enc []) ≡ 0
 enc-none-len = refl
 
--- the bytes of a character: those behind the first are not ASCII
+-- the bytes of a character: those after the first are not ASCII
 pub record Lead (c : ℕ) : Type 0 where
   pub first : ℕ
   pub others : List ℕ
@@ -111,13 +111,13 @@ content-piece quote _ _ n q (IsContent.Empty rest) = let e : n ≡ n + 0 = omega
 content-piece quote _ rest n q (IsContent.Taken c w _ more) =
     let z = w ++ rest in
     let l = lead c in
-    let behind = enc z in
+    let after = enc z in
     let size = lead-len c w in
     let first : length (enc (92 ∷ c ∷ w)) ≡ suc (length (enc (c ∷ w))) = ap length (enc-cons 92 (c ∷ w) (omega arith)) in
     let e : n + 1 + 1 + length l.others + length (enc w) ≡ n + length (enc (92 ∷ c ∷ w)) = omega arith in
     ap (piece_from quote false n) (enc-cons 92 (c ∷ z) (omega arith) ∙ ap (λ y. 92 ∷ y) (enc-lead c z))
-    ∙ takes quote n (l.first ∷ (l.others ++ behind)) (backslash-stop quote (slice_index (l.first ∷ (l.others ++ behind)) 0) q)
-    ∙ high-run quote l.others behind (n + 1 + 1) q l.all_high
+    ∙ takes quote n (l.first ∷ (l.others ++ after)) (backslash-stop quote (slice_index (l.first ∷ (l.others ++ after)) 0) q)
+    ∙ high-run quote l.others after (n + 1 + 1) q l.all_high
     ∙ content-piece quote w rest (n + 1 + 1 + length l.others) q more ∙ ap (λ k. piece_from quote false k (enc rest)) e
 content-piece quote _ rest n q (IsContent.Single c w _ other slash hash more) =
     let z = w ++ rest in

@@ -13,7 +13,7 @@ use Rattle.rb_lex.specs.declared.cut.Lexeme.{Lexeme}
 use Rattle.rb_lex.specs.declared.cut.Cut.{Cut}
 use Rattle.rb_lex.specs.declared.cut.Cut.TheVariants as cuts
 use Rattle.rb_rules.specs.Spellings.{Holds, OPERATORS, METHOD_OPERATORS}
-use Rattle.rb_rules.specs.Before.{IsBehindName}
+use Rattle.rb_rules.specs.Before.{IsAfterName}
 use Rattle.rb_rules.specs.Lexes.{Spells, IsBlank, IsForeign, IsWrong}
 use Rattle.rb_lex_laws.proofs.Lists.{and-both, both-and, or-either, left-or, right-or, not-true, not-of, no-both, eq-not}
 use Rattle.rb_lex_laws.proofs.Best.{Best, IsSame, best-same, longest-of}
@@ -83,19 +83,19 @@ paren-least past s w words rest u e h = by s w words rest e (of-kind past s w wo
     by _ _ _ rest e (SignLike.Method s w _ names h) = subst (λ z. AtLeast (length w) (method_name (slice_index z 0) (slice_index z 1) (slice_index z 2))) e (method-longest s w rest h)
 
 module _ (past : List Shape) (look : Look) (is : look.before ≡ before_of past) where
-  name-true : IsBehindName past → is_name look.before ≡ true
+  name-true : IsAfterName past → is_name look.before ≡ true
   name-true h = ap is_name is ∙ (name-asked past).1 h
 
   -- no token stands where the text is no Ruby
   wrong-token : (y : List ℕ) → IsWrong past look.is_blank y → (s : Shape) (w words rest : List ℕ) → Best past y s w words rest → Passes look s w rest → ⊥
-  wrong-token _ (IsWrong.Ambiguous t v more l held behind blank spaced) s w words rest b passes =
+  wrong-token _ (IsWrong.Ambiguous t v more l held after blank spaced) s w words rest b passes =
       let p = best-same past (v ++ more) s w words rest b t v [] more refl l in
       no-both (is_bad look s rest)
       (ap (is_bad look s) (sym p.1) ∙ ap (λ r. is_bad look r more) (sym p.0.0)
-      ∙ all-three (is_name look.before) look.is_blank (same_shape t shape.OpenParen || (is_ambiguous t && not (is_spaced more))) (name-true behind) blank
+      ∙ all-three (is_name look.before) look.is_blank (same_shape t shape.OpenParen || (is_ambiguous t && not (is_spaced more))) (name-true after) blank
       (right-or (same_shape t shape.OpenParen) (is_ambiguous t && not (is_spaced more)) (both-and (is_ambiguous t) (not (is_spaced more)) (held-ambiguous t held) (not-of (is_spaced more) (not-spaced more spaced)))))
       passes.good
-  wrong-token _ (IsWrong.ParenBehindBlank more behind blank) s w words rest b passes =
+  wrong-token _ (IsWrong.ParenAfterBlank more after blank) s w words rest b passes =
       by (b.others shape.OpenParen (40 ∷ []) [] more refl (Spells.Operator shape.OpenParen (40 ∷ []) more open-paren))
     where
       by : (1 < length w) ⊎ IsSame s w words shape.OpenParen (40 ∷ []) [] → ⊥
@@ -103,12 +103,12 @@ module _ (past : List Shape) (look : Look) (is : look.before ≡ before_of past)
       by (inr same) =
           no-both (is_bad look s rest)
           (ap (λ r. is_bad look r rest) (sym same.0)
-          ∙ all-three (is_name look.before) look.is_blank (same_shape shape.OpenParen shape.OpenParen || (is_ambiguous shape.OpenParen && not (is_spaced rest))) (name-true behind) blank
+          ∙ all-three (is_name look.before) look.is_blank (same_shape shape.OpenParen shape.OpenParen || (is_ambiguous shape.OpenParen && not (is_spaced rest))) (name-true after) blank
           (left-or (same_shape shape.OpenParen shape.OpenParen) (is_ambiguous shape.OpenParen && not (is_spaced rest)) (is-same shape.OpenParen shape.OpenParen refl)))
           passes.good
   wrong-token _ (IsWrong.NoToken c z spelt blanks marks) s w words rest b passes = spelt s w words rest b.whole b.spells
 
-  -- an operator that is refused behind a name
+  -- an operator that is refused after a name
   refused-wrong : (y : List ℕ) (s : Shape) (w rest : List ℕ) → (Holds (s, w) OPERATORS ⊎ Holds (s, w) METHOD_OPERATORS) → Best past y s w [] rest → is_bad look s rest ≡ true → IsWrong past look.is_blank y
   refused-wrong y s w rest row b h =
       let all = three-and (is_name look.before) look.is_blank (same_shape s shape.OpenParen || (is_ambiguous s && not (is_spaced rest))) h in
@@ -121,14 +121,14 @@ module _ (past : List Shape) (look : Look) (is : look.before ≡ before_of past)
       methods s e (inr (inr (inr (inl k)))) = let f : s ≡ shape.IndexAssign = ap (λ (p : Shape × List ℕ). p.0) k in absurd (cc)
       methods s e (inr (inr (inr (inr k)))) = k
 
-      by : IsBehindName past → look.is_blank ≡ true → (Holds (s, w) OPERATORS ⊎ Holds (s, w) METHOD_OPERATORS) → (same_shape s shape.OpenParen ≡ true) ⊎ ((is_ambiguous s && not (is_spaced rest)) ≡ true) → IsWrong past look.is_blank (w ++ rest)
-      by behind blank (inl op) (inl e) =
+      by : IsAfterName past → look.is_blank ≡ true → (Holds (s, w) OPERATORS ⊎ Holds (s, w) METHOD_OPERATORS) → (same_shape s shape.OpenParen ≡ true) ⊎ ((is_ambiguous s && not (is_spaced rest)) ≡ true) → IsWrong past look.is_blank (w ++ rest)
+      by after blank (inl op) (inl e) =
           let front : w ≡ 40 ∷ [] = paren-word w (subst (λ t. Holds (t, w) OPERATORS) (same-is s shape.OpenParen e) op) in
-          subst (λ z. IsWrong past look.is_blank (z ++ rest)) (sym front) (IsWrong.ParenBehindBlank rest behind blank)
-      by behind blank (inr m) (inl e) = absurd (methods s (same-is s shape.OpenParen e) m)
-      by behind blank row (inr e) =
+          subst (λ z. IsWrong past look.is_blank (z ++ rest)) (sym front) (IsWrong.ParenAfterBlank rest after blank)
+      by after blank (inr m) (inl e) = absurd (methods s (same-is s shape.OpenParen e) m)
+      by after blank row (inr e) =
           let both = and-both (is_ambiguous s) (not (is_spaced rest)) e in
-          IsWrong.Ambiguous s w rest (longest-of past y s w [] rest b) (ambiguous-held s both.0) behind blank (spaced-not rest (not-true (is_spaced rest) both.1))
+          IsWrong.Ambiguous s w rest (longest-of past y s w [] rest b) (ambiguous-held s both.0) after blank (spaced-not rest (not-true (is_spaced rest) both.1))
 
   nothing-wrong : (y : List ℕ) → Other y → ((s : Shape) (w words rest : List ℕ) → w ++ rest ≡ y → ¬ Spells past s w words rest) → IsWrong past look.is_blank y
   nothing-wrong y o none =

@@ -9,8 +9,8 @@ use Rattle.rb_tree.specs.declared.token.Token.{Token}
 use Rattle.rb_tree.specs.declared.token.TokenKind.TheVariants as kind
 use Rattle.rb_tree.specs.declared.token.Shape.{Shape}
 use Rattle.rb_tree.specs.declared.token.Shape.TheVariants as shape
-use Rattle.rb_lex.specs.Cuts.{names_method, is_closing, behind_operator, cut_of, token}
-use Rattle.rb_lex.specs.Lexed.{blanked, behind_line, opened, is_inside, lexed_from, lexed, lexed_text, START}
+use Rattle.rb_lex.specs.Cuts.{names_method, is_closing, after_operator, cut_of, token}
+use Rattle.rb_lex.specs.Lexed.{blanked, after_line, opened, is_inside, lexed_from, lexed, lexed_text, START}
 use Rattle.rb_lex.specs.Pieces.{is_touched}
 use Rattle.rb_lex.specs.declared.cut.Look.{Look}
 use Rattle.rb_lex.specs.declared.cut.Cut.{Cut}
@@ -99,9 +99,9 @@ comment-lands p s w rest m none c =
 line-len : byte_len (10 ∷ []) ≡ 1
 line-len = sym (enc-len (10 ∷ [])) ∙ ap length (enc-cons 10 [] (omega arith))
 
-line-run : (p : Place) (s : State) (rest : List ℕ) → s.string ≡ None → lexed_from 0 p.at s (enc (10 ∷ rest)) ≡ lexed_from 0 (p.at + byte_len (10 ∷ [])) (behind_line p.at s) (enc rest)
+line-run : (p : Place) (s : State) (rest : List ℕ) → s.string ≡ None → lexed_from 0 p.at s (enc (10 ∷ rest)) ≡ lexed_from 0 (p.at + byte_len (10 ∷ [])) (after_line p.at s) (enc rest)
 line-run p s rest none =
-    ap (lexed_from 0 p.at s) (enc-cons 10 rest (omega arith)) ∙ line-step (enc rest) p.at s none ∙ ap (λ n. lexed_from 0 (p.at + n) (behind_line p.at s) (enc rest)) (sym line-len)
+    ap (lexed_from 0 p.at s) (enc-cons 10 rest (omega arith)) ∙ line-step (enc rest) p.at s none ∙ ap (λ n. lexed_from 0 (p.at + n) (after_line p.at s) (enc rest)) (sym line-len)
 
 quote-run : (p : Place) (s : State) (quote : ℕ) (rest : List ℕ) → s.string ≡ None → IsQuote quote → lexed_from 0 p.at s (enc (quote ∷ rest)) ≡ lexed_from 0 (p.at + 1) (opened quote p.at s) (enc rest)
 quote-run p s quote rest none q = ap (lexed_from 0 p.at s) (enc-cons quote rest (low q)) ∙ quote-step quote (enc rest) p.at s none q
@@ -132,7 +132,7 @@ brace-of p rest =
         close : Holds (let row : Shape × List ℕ = (shape.CloseBrace, 125 ∷ []) in row) OPERATORS
         close = inr (inr (inr (inr (inr (inr (inr (inr (inr (inr (inr (inr (inr (inr (inr (inr (inr (inr (inr (inr (inr (inr (inr (inr (inr (inr (inr (inr (inr (inr (inr (inr (inr (inr (inr (inr (inl refl))))))))))))))))))))))))))))))))))))
 
-    by : (cut : Cut) → cut ≡ token shape.CloseBrace 1 (behind_operator (before_of (past_of p)) shape.CloseBrace) (is_closing shape.CloseBrace || names_method (before_of (past_of p))) → Seen (past_of p) (record { before = before_of (past_of p); is_blank = p.blank; is_fresh = p.start }) (enc (125 ∷ rest)) cut → Brace p rest
+    by : (cut : Cut) → cut ≡ token shape.CloseBrace 1 (after_operator (before_of (past_of p)) shape.CloseBrace) (is_closing shape.CloseBrace || names_method (before_of (past_of p))) → Seen (past_of p) (record { before = before_of (past_of p); is_blank = p.blank; is_fresh = p.start }) (enc (125 ∷ rest)) cut → Brace p rest
     by _ e (Seen.Token x w words y b len kinds says nf nw) =
         let is = ap shape_cut e in
         let one = (spells-single (past_of p) x.shape w words y b.spells).brace is in
@@ -188,10 +188,10 @@ followed text _ _ (Reaches.PastBlank p w rest r none b) = let f = followed text 
 followed text _ _ (Reaches.PastComment p w rest r none c) = let f = followed text p (35 ∷ w ++ rest) r in goes-on text p (passed (35 ∷ w) false p) (35 ∷ w ++ rest) rest f (comment-lands p f.state w rest f.matches none c)
 followed text _ _ (Reaches.Kept p rest r none keeps free) =
     let f = followed text p (10 ∷ rest) r in
-    record { state = behind_line p.at f.state; run = f.run ∙ line-run p f.state rest (f.matches.string_is ∙ ap held_string none); matches = kept-matches p f.state rest f.matches none keeps free }
+    record { state = after_line p.at f.state; run = f.run ∙ line-run p f.state rest (f.matches.string_is ∙ ap held_string none); matches = kept-matches p f.state rest f.matches none keeps free }
 followed text _ _ (Reaches.Dropped p rest r none why) =
     let f = followed text p (10 ∷ rest) r in
-    record { state = behind_line p.at f.state; run = f.run ∙ line-run p f.state rest (f.matches.string_is ∙ ap held_string none); matches = dropped-matches p f.state rest f.matches none why }
+    record { state = after_line p.at f.state; run = f.run ∙ line-run p f.state rest (f.matches.string_is ∙ ap held_string none); matches = dropped-matches p f.state rest f.matches none why }
 followed text _ _ (Reaches.Spelt p t w words rest r none l nf nw stays) = spelt-followed text p t w words rest (followed text p (w ++ rest) r) none l nf nw stays
 followed text _ _ (Reaches.Returns p outer opening rest r none ret outer_is) = returned-followed text p opening outer rest (followed text p (125 ∷ rest) r) none ret outer_is
 followed text _ _ (Reaches.Opens p quote rest r none q) =
@@ -276,7 +276,7 @@ module _ (text : List ℕ) (n : ℕ) (more : Sound text n) (p : Place) (s : Stat
       code = m.string_is ∙ ap held_string none
 
       drop_it : ((Keeps (past_of p) → ⊥) ⊎ Continues rest) → IsSound text (lexed_from 0 p.at s (enc (10 ∷ rest)))
-      drop_it why = subst (IsSound text) (sym (line-run p s rest code)) (more (passed (10 ∷ []) true p) (behind_line p.at s) rest short (Reaches.Dropped p rest r none why) (dropped-matches p s rest m none why))
+      drop_it why = subst (IsSound text) (sym (line-run p s rest code)) (more (passed (10 ∷ []) true p) (after_line p.at s) rest short (Reaches.Dropped p rest r none why) (dropped-matches p s rest m none why))
 
       by : (t : Bool) → goes_on false rest ≡ t → (k : Bool) → keeps_of (past_of p) ≡ k → IsSound text (lexed_from 0 p.at s (enc (10 ∷ rest)))
       by true e k f = drop_it (inr (continues-is (length rest) rest (omega arith) e))
@@ -285,7 +285,7 @@ module _ (text : List ℕ) (n : ℕ) (more : Sound text n) (p : Place) (s : Stat
           let keeps = (keeps-asked (past_of p)).0 f in
           let free : Continues rest → ⊥ = λ c. no-both (goes_on false rest) (continues-on rest c) e in
           subst (IsSound text) (sym (line-run p s rest code))
-          (more (passed (10 ∷ []) true (record p { tokens = p.tokens ++ record { kind = kind.Separator; span = record { start = p.at; end = p.at + 1 } } ∷ [] })) (behind_line p.at s) rest short (Reaches.Kept p rest r none keeps free) (kept-matches p s rest m none keeps free))
+          (more (passed (10 ∷ []) true (record p { tokens = p.tokens ++ record { kind = kind.Separator; span = record { start = p.at; end = p.at + 1 } } ∷ [] })) (after_line p.at s) rest short (Reaches.Kept p rest r none keeps free) (kept-matches p s rest m none keeps free))
 
   sound-quote : (quote : ℕ) (rest : List ℕ) → length rest < n → IsQuote quote → Reaches text p (quote ∷ rest) → Matches p s (quote ∷ rest) → p.string ≡ None → IsSound text (lexed_from 0 p.at s (enc (quote ∷ rest)))
   sound-quote quote rest short q r m none =

@@ -36,7 +36,7 @@ PlaceIsOne =
     (text : List ℕ) (at other : ℕ) →
     (OutsideAt text at → OutsideAt text other → at ≡ other) × (BadCharAt text at → BadCharAt text other → at ≡ other) × (OutsideAt text at → ¬ BadCharAt text other)
 
--- the tokens stand one behind the other from an offset on: none overlaps the next, and each begins and ends where a character of the text
+-- the tokens stand one after the other from an offset on: none overlaps the next, and each begins and ends where a character of the text
 -- begins or the text ends
 abbrev pub StandInOrder : List ℕ → ℕ → List Token → Type 0
 StandInOrder text from [] = Unit {0}

@@ -62,7 +62,7 @@ pub fn each_text_has_one_answer()
     ensures place { PlaceIsOne }
 {}
 
-/// Tokens stand one behind the other, and each begins and ends where a character begins or the text ends. So does each refused
+/// Tokens stand one after the other, and each begins and ends where a character begins or the text ends. So does each refused
 /// place.
 pub fn tokens_stand_at_characters()
     ensures tokens { TokensStandAtCharacters }

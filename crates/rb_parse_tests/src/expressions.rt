@@ -453,8 +453,8 @@ fn two_hundred_levels(rt: HostRuntime) -> Result<(), Fail> {
     Ok(())
 }
 
-// Behind how many tokens an expression ends that begins at the token `from`.
-fn ends_behind(alloc: Global, tokens: &[Token], from: usize) -> Result<usize, ParseEnd> {
+// After how many tokens an expression ends that begins at the token `from`.
+fn ends_after(alloc: Global, tokens: &[Token], from: usize) -> Result<usize, ParseEnd> {
     if from > tokens.len() {
         return Err(ParseEnd::NoMemory);
     }
@@ -467,7 +467,7 @@ fn ends_behind(alloc: Global, tokens: &[Token], from: usize) -> Result<usize, Pa
 #[test]
 fn an_expression_ends_before_a_modifier(rt: HostRuntime) -> Result<(), Fail> {
     let tokens = tokens_of(rt.alloc(), "a; b + c if d")?;
-    assert!(rt; ends_behind(rt.alloc(), tokens.as_slice(), 2) == Ok(5));
-    assert!(rt; ends_behind(rt.alloc(), tokens.as_slice(), 1) == Err(ParseEnd::Bad { at: 1 }));
+    assert!(rt; ends_after(rt.alloc(), tokens.as_slice(), 2) == Ok(5));
+    assert!(rt; ends_after(rt.alloc(), tokens.as_slice(), 1) == Err(ParseEnd::Bad { at: 1 }));
     Ok(())
 }

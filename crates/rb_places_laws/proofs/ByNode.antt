@@ -46,7 +46,7 @@ by-default {X = X} S Q h k p = go p.default
     go None = h p.kind p.name p.span
     go (Some d) = k p.kind p.name p.span d
 
--- by what stands behind the clauses
+-- by what stands after the clauses
 by-guarded : {X : Type 0} (S Q : Guarded X → Type 0) →
     ((b : X) (rs : List (Rescue X)) → S (record { body = b; rescues = rs; otherwise = None; ensure = None }) ≡ Q (record { body = b; rescues = rs; otherwise = None; ensure = None })) →
     ((b : X) (rs : List (Rescue X)) (e : X) → S (record { body = b; rescues = rs; otherwise = None; ensure = Some e }) ≡ Q (record { body = b; rescues = rs; otherwise = None; ensure = Some e })) →

@@ -40,7 +40,7 @@ use Rattle.rb_rules.specs.Grammar.{JUMP_WORDS, PREFIXES, IsRow, posted, body_of,
 use Rattle.rb_views.specs.Places.{first_bytes, jump_length, open_bracket}
 use Rattle.rb_grammar.specs.Places.{Each, IfThere}
 use Rattle.rb_grammar.proofs.Steps.{Within, within-self}
-use Rattle.rb_grammar.proofs.Placed.{each-last, each-weaker, each-end, one-of, Ends, Begins, ends-behind, ends-of, begins-at, begins-across, placed, token-placed}
+use Rattle.rb_grammar.proofs.Placed.{each-last, each-weaker, each-end, one-of, Ends, Begins, ends-after, ends-of, begins-at, begins-across, placed, token-placed}
 use Rattle.rb_places_laws.specs.ErrorPlaces.{prefix_to, HasArgument, HasBlock, HasSuffix, HasPiece, HasPair, HasArm, HasWhen, HasParameter, HasRescue, HasGuarded, HasParts, HasNode, HasErrorPlaces}
 use Rattle.rb_places_laws.specs.TokenPlaces.{HEADS, IsPlaceOfError}
 use Rattle.rb_places_laws.proofs.ByNode.{has-as}
@@ -114,11 +114,11 @@ module _ (tokens : List Token) where
   in-row front (suffix.Constant name name_span span) p h = p
   in-row front (suffix.Index given span) p h = (p, h.0, h.1)
 
-  -- the places in the tree are so, it begins where the tokens behind do, and ends where one of those ends
+  -- the places in the tree are so, it begins where the tokens after do, and ends where one of those ends
   abbrev pub Stood : List Token → Tree → Type 0
   Stood xs t = Begins xs (span_of t) × Has t
 
-  -- they are so, and it ends where one of the tokens behind ends; so of other parts
+  -- they are so, and it ends where one of the tokens after ends; so of other parts
   abbrev pub Ended : List Token → Tree → Type 0
   Ended xs t = Ends xs (span_of t).end × Has t
 
@@ -132,17 +132,17 @@ module _ (tokens : List Token) where
   BlockEnded xs b = Ends xs b.span.end × Blocked b
 
   pub ended : {xs ys : List Token} (t : Tree) → Within xs ys → Stood ys t → Ended xs t
-  ended {ys = ys} t w h = (ends-behind w (ends-of ys (span_of t) h.0), h.1)
+  ended {ys = ys} t w h = (ends-after w (ends-of ys (span_of t) h.0), h.1)
 
   pub all-ended : {xs ys : List Token} (ss : List Tree) → Within xs ys → Each (Ended ys) ss → Each (Ended xs) ss
-  all-ended {xs = xs} {ys = ys} ss w = each-weaker (Ended ys) (Ended xs) (λ t h. (ends-behind w h.0, h.1)) ss
+  all-ended {xs = xs} {ys = ys} ss w = each-weaker (Ended ys) (Ended xs) (λ t h. (ends-after w h.0, h.1)) ss
 
   pub all-argued : {xs ys : List Token} (given : List (Argument Tree)) → Within xs ys → Each (Argued ys) given → Each (Argued xs) given
-  all-argued {xs = xs} {ys = ys} given w = each-weaker (Argued ys) (Argued xs) (λ a h. (ends-behind w h.0, h.1)) given
+  all-argued {xs = xs} {ys = ys} given w = each-weaker (Argued ys) (Argued xs) (λ a h. (ends-after w h.0, h.1)) given
 
   pub if-ended : {xs ys : List Token} (b : Option (Block Tree)) → Within xs ys → IfThere (BlockEnded ys) b → IfThere (BlockEnded xs) b
   if-ended None w h = h
-  if-ended (Some b) w h = (ends-behind w h.0, h.1)
+  if-ended (Some b) w h = (ends-after w h.0, h.1)
 
   pub argued : (xs : List Token) (given : List (Argument Tree)) → Each (Argued xs) given → Arguments given
   argued xs = each-weaker (Argued xs) InArgument (λ a h. h.1)

@@ -11,12 +11,12 @@ use Rattle.rb_tree.specs.declared.token.Shape.TheVariants as shape
 use Rattle.rb_expr.specs.declared.form.Form.{Form}
 use Rattle.rb_expr.specs.declared.form.Form.TheVariants as form
 use Rattle.rb_expr.specs.Reading.{Outcome, Parser, ◌<$>◌, sees, after, skip_separators, named}
-use Rattle.rb_expr.specs.Branches.{after_then, then_word, do_word, rescues_all, rescue_variable, otherwise, elsif_arm, elsif_arms_from, elsif_arms, arms_of, branch, repeated, subject, patterns_from, patterns, when_arm, when_arms_from, when_arms, choice, raised, rescue_clause, rescues_from, rescues, otherwise_behind, ensure, guarded, guards}
+use Rattle.rb_expr.specs.Branches.{after_then, then_word, do_word, rescues_all, rescue_variable, otherwise, elsif_arm, elsif_arms_from, elsif_arms, arms_of, branch, repeated, subject, patterns_from, patterns, when_arm, when_arms_from, when_arms, choice, raised, rescue_clause, rescues_from, rescues, otherwise_after, ensure, guarded, guards}
 use Rattle.rb_prefix_laws.proofs.Steps.{Alike, likewise, bind, join, weaker, one, choose, Looks, sees-one, done, expecting, naming, taking, stepping, skipping, Fits, less-fits, loop-in, loop-at}
 use Rattle.rb_prefix_laws.proofs.Steps.Amount.{answer, any}
 use Rattle.rb_prefix_laws.proofs.Nested.{Nests}
 
--- a `then` that is passed over behind a separator
+-- a `then` that is passed over after a separator
 then-over : {A : Type 0} (k : ℕ) (a : A) (xs : List Token) → Alike k (any 0) xs (Ok (a, after_then xs)) (λ ys. Ok (a, after_then ys))
 then-over {A = A} k a xs = likewise xs (λ ys. if sees shape.Then ys then Ok (a, after ys) else Ok (a, ys)) (λ ys. Ok (a, after_then ys)) (λ ys. either (after ys) ys (sees shape.Then ys))
     (choose (sees shape.Then) (sees-one shape.Then) (λ e. weaker (stepping xs (λ ys. Ok (a, ys)) (λ ys. Ok (a, ys)) shape.Then e (done a))) (λ e. done a))
@@ -77,7 +77,7 @@ module _ (nested other : Form → Bool → Parser Tree) (turns more : ℕ) (ih :
   unfolding repeated
   repeated-alike k fit how xs = bind (taking xs) (λ mark r. bind ((ih k fit).reads form.Simple false r) (λ condition r. join (weaker (do-word-alike (k - 1) r)) (λ word r. bind ((ih k fit).reads form.Body free r) (λ body r. weaker (bind (expecting shape.End r) (λ closing r. done _))))))
 
-  -- behind `case`
+  -- after `case`
   subject-alike : (k : ℕ) → Fits turns more k → (xs : List Token) → Alike (k - 1) (any 0) xs (subject nested turns free xs) (subject other more free)
   unfolding subject
   subject-alike k fit xs = choose (λ ys. sees shape.Separator ys || sees shape.When ys) (one (λ ys. sees shape.Separator ys || sees shape.When ys) (λ t ts. refl)) (λ e. done _) (λ e. bind ((ih k fit).reads form.Simple free xs) (λ value r. done _))
@@ -106,7 +106,7 @@ module _ (nested other : Form → Bool → Parser Tree) (turns more : ℕ) (ih :
 
   -- ---- guards
 
-  -- behind `rescue`
+  -- after `rescue`
   raised-alike : (k : ℕ) → Fits turns more k → (xs : List Token) → Alike (k - 1) (any 0) xs (raised nested turns free xs) (raised other more free)
   unfolding raised
   raised-alike k fit xs = choose rescues_all rescues-all-one (λ e. done _) (λ e. patterns-alike k fit xs)
@@ -121,10 +121,10 @@ module _ (nested other : Form → Bool → Parser Tree) (turns more : ℕ) (ih :
       (λ k n m fit again s xs. choose (sees shape.Rescue) (sees-one shape.Rescue) (λ e. weaker (bind (clause-alike k fit xs) (λ clause r. again (s ++ clause ∷ []) r))) (λ e. done _))
       k fit [] xs
 
-  behind-rescues-alike : (k : ℕ) → Fits turns more k → (clauses : List (Rescue Tree)) (xs : List Token) → Alike k (any 0) xs (otherwise_behind nested turns free clauses xs) (otherwise_behind other more free clauses)
-  unfolding otherwise_behind
-  behind-rescues-alike k fit [] xs = done _
-  behind-rescues-alike k fit (clause ∷ clauses) xs = otherwise-alike k fit xs
+  after-rescues-alike : (k : ℕ) → Fits turns more k → (clauses : List (Rescue Tree)) (xs : List Token) → Alike k (any 0) xs (otherwise_after nested turns free clauses xs) (otherwise_after other more free clauses)
+  unfolding otherwise_after
+  after-rescues-alike k fit [] xs = done _
+  after-rescues-alike k fit (clause ∷ clauses) xs = otherwise-alike k fit xs
 
   ensure-alike : (k : ℕ) → Fits turns more k → (xs : List Token) → Alike k (any 0) xs (ensure nested turns free xs) (ensure other more free)
   unfolding ensure
@@ -134,7 +134,7 @@ module _ (nested other : Form → Bool → Parser Tree) (turns more : ℕ) (ih :
 
   pub guarded-alike : (k : ℕ) → Fits turns more k → (xs : List Token) → Alike (k - 1) (any 0) xs (guarded nested turns free xs) (guarded other more free)
   unfolding guarded
-  guarded-alike k fit xs = let less = less-fits fit in bind ((ih k fit).reads form.Body free xs) (λ body r. bind (rescues-alike (k - 1) less r) (λ clauses r. bind (behind-rescues-alike (k - 1) less clauses r) (λ rest r. bind (ensure-alike (k - 1) less r) (λ last r. done _))))
+  guarded-alike k fit xs = let less = less-fits fit in bind ((ih k fit).reads form.Body free xs) (λ body r. bind (rescues-alike (k - 1) less r) (λ clauses r. bind (after-rescues-alike (k - 1) less clauses r) (λ rest r. bind (ensure-alike (k - 1) less r) (λ last r. done _))))
 
   pub guards-alike : (k : ℕ) → Fits turns more k → (xs : List Token) → Alike k (answer 0) xs (guards nested turns free xs) (guards other more free)
   unfolding guards

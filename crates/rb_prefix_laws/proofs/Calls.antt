@@ -16,7 +16,7 @@ use Rattle.rb_expr.specs.Calls.{keyword, passed_block, positional, argument_by, 
 use Rattle.rb_prefix_laws.proofs.Steps.{Alike, Looks, bind, weaker, one, choose, looking, sees-one, peek-one, done, refusing, expecting, naming, stepping, skipping, fixed, Fits, less-fits, loop-in, loop-at, narrow}
 use Rattle.rb_prefix_laws.proofs.Steps.Amount.{answer, any}
 use Rattle.rb_prefix_laws.proofs.Nested.{Nests}
-use Rattle.rb_prefix_laws.proofs.Lists.{behind-argument-alike, fresh-alike}
+use Rattle.rb_prefix_laws.proofs.Lists.{after-argument-alike, fresh-alike}
 
 goes-one : (given : Order) → Looks (goes_on given)
 unfolding goes_on
@@ -56,7 +56,7 @@ module _ (nested other : Form → Bool → Parser Tree) (turns more : ℕ) (ih :
   listed-alike : (k : ℕ) → Fits turns more k → (closer : Shape) (xs : List Token) → Alike (k - 1) (any 0) xs (listed nested turns free closer xs) (listed other more free closer)
   unfolding listed listed_from
   listed-alike k fit closer xs = loop-in {S = Bool × List (Argument Tree)} turns more (λ n s. listed_from nested turns free closer n s.0 s.1) (λ n s. listed_from other more free closer n s.0 s.1)
-      (λ k n m fit again s xs. bind (argument-alike k fit s.0 true xs) (λ next r. weaker (bind (behind-argument-alike (k - 1) closer (order_of next) r) (elim [ Some place ↦ λ r. done _ | None ↦ λ r. again (is_keyword (order_of next), s.1 ++ next ∷ []) r ]))))
+      (λ k n m fit again s xs. bind (argument-alike k fit s.0 true xs) (λ next r. weaker (bind (after-argument-alike (k - 1) closer (order_of next) r) (elim [ Some place ↦ λ r. done _ | None ↦ λ r. again (is_keyword (order_of next), s.1 ++ next ∷ []) r ]))))
       k fit (false, []) xs
 
   in-brackets-alike : (k : ℕ) → Fits turns more k → (xs : List Token) → Alike (k - 1) (any 0) xs (in_brackets nested turns free xs) (in_brackets other more free)
@@ -75,7 +75,7 @@ module _ (nested other : Form → Bool → Parser Tree) (turns more : ℕ) (ih :
   unfolding optional_brackets
   optional-alike k fit end xs = choose (sees shape.OpenParen) (sees-one shape.OpenParen) (λ e. weaker (bind (brackets-alike k fit xs) (λ found r. done _))) (λ e. done _)
 
-  -- behind the callee
+  -- after the callee
   pub bare-alike : (k : ℕ) → Fits turns more k → (xs : List Token) → Alike (k - 1) (any 0) xs (bare nested turns free xs) (bare other more free)
   unfolding bare bare_from
   bare-alike k fit xs = loop-in {S = Bool × List (Argument Tree)} turns more (λ n s. bare_from nested turns free n s.0 s.1) (λ n s. bare_from other more free n s.0 s.1)

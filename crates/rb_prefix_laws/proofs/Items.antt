@@ -57,7 +57,7 @@ opened-alike shape.Def t ts a b c a2 b2 c2 v h g i = g (λ e. refl)
 opened-alike s t ts a b c a2 b2 c2 v h g i = by-visible-alike (t ∷ ts) a b c a2 b2 c2 v (λ e. g (λ f. absurd (cc))) i
 
 module _ (turns more : ℕ) where
-  -- ---- heads, behind the first token of which the bound is kept to
+  -- ---- heads, after the first token of which the bound is kept to
 
   class-alike : (k : ℕ) → Fits turns more (k - 1) → (long : Bool) (xs : List Token) → Alike k (answer 0) xs (class_head turns long xs) (class_head more long)
   unfolding class_head
@@ -67,7 +67,7 @@ module _ (turns more : ℕ) where
   unfolding module_head
   module-alike k fit long xs = bind (expecting shape.Module xs) (λ word r. bind (path-alike turns more (k - 1) fit long r) (λ names r. done _))
 
-  -- with the separator behind it
+  -- with the separator after it
   abbrev Ended : Parser Head → Parser Head
   Ended p = p >>= (λ h. expect shape.Separator >>= (λ _. pure h))
 

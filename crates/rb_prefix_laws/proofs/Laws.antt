@@ -20,26 +20,26 @@ pub forms-need-no-more-depth : FormsNeedNoMoreDepth
 forms-need-no-more-depth depth other f free tokens a b =
     sym (again-same (length tokens + 2 - 1) tokens (parsed depth f free tokens) (parsed other f free) (form-read (length tokens + 2) depth other (omega arith) (omega arith) f free tokens) (omega arith))
 
-form-other : (d : ℕ) (f : Form) (free : Bool) (before : List Token) (next : Token) (behind others : List Token) → suc (length (before ++ next ∷ behind)) < d → suc (length (before ++ next ∷ others)) < d → (o : Outcome Tree) →
-    parsed d f free (before ++ next ∷ behind) ≡ o → rest_of o ≡ next ∷ behind → parsed d f free (before ++ next ∷ others) ≡ instead o (next ∷ others)
-form-other d f free before next behind others a b o e r =
-    again-other (d - 1) before next behind others (parsed d f free (before ++ next ∷ behind)) (parsed d f free) (form-read d d d (omega arith) (omega arith) f free (before ++ next ∷ behind)) (omega arith) (omega arith) (ap rest_of e ∙ r)
+form-other : (d : ℕ) (f : Form) (free : Bool) (before : List Token) (next : Token) (after others : List Token) → suc (length (before ++ next ∷ after)) < d → suc (length (before ++ next ∷ others)) < d → (o : Outcome Tree) →
+    parsed d f free (before ++ next ∷ after) ≡ o → rest_of o ≡ next ∷ after → parsed d f free (before ++ next ∷ others) ≡ instead o (next ∷ others)
+form-other d f free before next after others a b o e r =
+    again-other (d - 1) before next after others (parsed d f free (before ++ next ∷ after)) (parsed d f free) (form-read d d d (omega arith) (omega arith) f free (before ++ next ∷ after)) (omega arith) (omega arith) (ap rest_of e ∙ r)
     ∙ ap (λ o. instead o (next ∷ others)) e
 
 -- at depths of their own
-form-at : (d e : ℕ) (f : Form) (free : Bool) (before : List Token) (next : Token) (behind others : List Token) → suc (length (before ++ next ∷ behind)) < d → suc (length (before ++ next ∷ others)) < e → (o : Outcome Tree) →
-    parsed d f free (before ++ next ∷ behind) ≡ o → rest_of o ≡ next ∷ behind → parsed e f free (before ++ next ∷ others) ≡ instead o (next ∷ others)
-form-at d e f free before next behind others a b o h r =
-    let deep : suc (length (before ++ next ∷ behind)) < d + e = omega arith in
+form-at : (d e : ℕ) (f : Form) (free : Bool) (before : List Token) (next : Token) (after others : List Token) → suc (length (before ++ next ∷ after)) < d → suc (length (before ++ next ∷ others)) < e → (o : Outcome Tree) →
+    parsed d f free (before ++ next ∷ after) ≡ o → rest_of o ≡ next ∷ after → parsed e f free (before ++ next ∷ others) ≡ instead o (next ∷ others)
+form-at d e f free before next after others a b o h r =
+    let deep : suc (length (before ++ next ∷ after)) < d + e = omega arith in
     let deep' : suc (length (before ++ next ∷ others)) < d + e = omega arith in
     forms-need-no-more-depth e (d + e) f free (before ++ next ∷ others) b deep'
-    ∙ form-other (d + e) f free before next behind others deep deep' o (forms-need-no-more-depth (d + e) d f free (before ++ next ∷ behind) deep a ∙ h) r
+    ∙ form-other (d + e) f free before next after others deep deep' o (forms-need-no-more-depth (d + e) d f free (before ++ next ∷ after) deep a ∙ h) r
 
 pub forms-are-refused-alike : FormsAreRefusedAlike
-forms-are-refused-alike depth other f free before bad behind others a b e = form-at depth other f free before bad behind others a b (Err (bad ∷ behind)) e refl
+forms-are-refused-alike depth other f free before bad after others a b e = form-at depth other f free before bad after others a b (Err (bad ∷ after)) e refl
 
 pub forms-end-alike : FormsEndAlike
-forms-end-alike depth other f free t before next behind others a b e = form-at depth other f free before next behind others a b (Ok (t, next ∷ behind)) e refl
+forms-end-alike depth other f free t before next after others a b e = form-at depth other f free before next after others a b (Ok (t, next ∷ after)) e refl
 
 -- ---- programs
 
@@ -47,11 +47,11 @@ pub programs-need-no-more-depth : ProgramsNeedNoMoreDepth
 programs-need-no-more-depth depth other tokens a b = same-program depth other tokens a b
 
 pub refusals-look-no-further : RefusalsLookNoFurther
-refusals-look-no-further depth other before bad behind others a b e =
-    let deep : length (before ++ bad ∷ behind) < depth + other = omega arith in
+refusals-look-no-further depth other before bad after others a b e =
+    let deep : length (before ++ bad ∷ after) < depth + other = omega arith in
     let deep' : length (before ++ bad ∷ others) < depth + other = omega arith in
     same-program other (depth + other) (before ++ bad ∷ others) b deep'
-    ∙ refused-alike (depth + other) before bad behind others deep deep' (same-program (depth + other) depth (before ++ bad ∷ behind) deep a ∙ e)
+    ∙ refused-alike (depth + other) before bad after others deep deep' (same-program (depth + other) depth (before ++ bad ∷ after) deep a ∙ e)
 
 pub refusals-are-ends : RefusalsAreEnds
 refusals-are-ends depth tokens rest less e = refusal-ends depth tokens rest less e

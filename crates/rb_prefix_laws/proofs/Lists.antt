@@ -1,4 +1,4 @@
--- What stands between and behind the elements of lists is read alike.
+-- What stands between and after the elements of lists is read alike.
 use Rattle.std.proofs.Common.{◌≡◌, ℕ, ◌-◌, Bool, true, false, ◌&&◌, if◌then◌else◌, List, [], ◌∷◌, Option, Some, None, Ok, Err, refl}
 use Rattle.rb_tree.specs.Tokens.{shape_of, same_shape}
 use Rattle.rb_tree.specs.declared.syntax.PlacedName.{PlacedName}
@@ -7,7 +7,7 @@ use Rattle.rb_tree.specs.declared.token.Shape.{Shape}
 use Rattle.rb_tree.specs.declared.token.Shape.TheVariants as shape
 use Rattle.rb_expr.specs.declared.lists.Order.{Order}
 use Rattle.rb_expr.specs.Reading.{and_then, ◌<$>◌, sees, after, skip_separators, words_of, expect}
-use Rattle.rb_expr.specs.Lists.{is_block, takes_comma, closed, behind_comma, behind_element, behind_last, behind_argument, is_among, fresh_name}
+use Rattle.rb_expr.specs.Lists.{is_block, takes_comma, closed, after_comma, after_element, after_last, after_argument, is_among, fresh_name}
 use Rattle.rb_grammar.proofs.Lists.{and-right}
 use Rattle.rb_prefix_laws.proofs.Steps.{Alike, bind, weaker, one-taken, one, choose, sees-one, done, by_token, told, token, likewise, expecting, stepping, skipping, fixed}
 use Rattle.rb_prefix_laws.proofs.Steps.Amount.{answer, any}
@@ -16,25 +16,25 @@ closed-alike : (k : ℕ) (closer : Shape) (xs : List Token) → Alike k (answer 
 unfolding closed
 closed-alike k closer xs = skipping xs (Some <$> expect closer) (Some <$> expect closer) (bind (expecting closer (skip_separators xs)) (λ a r. done (Some a)))
 
-comma-alike : (k : ℕ) (closer : Shape) (xs : List Token) → Alike k (any 0) xs (behind_comma closer xs) (behind_comma closer)
-unfolding behind_comma
+comma-alike : (k : ℕ) (closer : Shape) (xs : List Token) → Alike k (any 0) xs (after_comma closer xs) (after_comma closer)
+unfolding after_comma
 comma-alike k closer xs = choose (λ ys. takes_comma closer && sees closer ys) (one (λ ys. takes_comma closer && sees closer ys) (λ t ts. refl)) (λ e. weaker (closed-alike k closer xs)) (λ e. done None)
 
-pub element-alike : (k : ℕ) (closer : Shape) (xs : List Token) → Alike k (answer 0) xs (behind_element closer xs) (behind_element closer)
-unfolding behind_element
+pub element-alike : (k : ℕ) (closer : Shape) (xs : List Token) → Alike k (answer 0) xs (after_element closer xs) (after_element closer)
+unfolding after_element
 element-alike k closer xs = choose (sees shape.Comma) (sees-one shape.Comma)
-    (λ e. one-taken (stepping xs (λ ys. behind_comma closer (skip_separators ys)) (λ ys. behind_comma closer (skip_separators ys)) shape.Comma e (skipping (after xs) (behind_comma closer) (behind_comma closer) (comma-alike (k - 1) closer (skip_separators (after xs))))))
+    (λ e. one-taken (stepping xs (λ ys. after_comma closer (skip_separators ys)) (λ ys. after_comma closer (skip_separators ys)) shape.Comma e (skipping (after xs) (after_comma closer) (after_comma closer) (comma-alike (k - 1) closer (skip_separators (after xs))))))
     (λ e. closed-alike k closer xs)
 
-last-alike : (k : ℕ) (closer : Shape) (xs : List Token) → Alike k (answer 0) xs (behind_last closer xs) (behind_last closer)
-unfolding behind_last
+last-alike : (k : ℕ) (closer : Shape) (xs : List Token) → Alike k (answer 0) xs (after_last closer xs) (after_last closer)
+unfolding after_last
 last-alike k closer xs = choose (λ ys. takes_comma closer && sees shape.Comma ys) (one (λ ys. takes_comma closer && sees shape.Comma ys) (λ t ts. refl))
     (λ e. one-taken (stepping xs (closed closer) (closed closer) shape.Comma (and-right _ _ e) (weaker (closed-alike (k - 1) closer (after xs)))))
     (λ e. closed-alike k closer xs)
 
-pub behind-argument-alike : (k : ℕ) (closer : Shape) (given : Order) (xs : List Token) → Alike k (answer 0) xs (behind_argument closer given xs) (behind_argument closer given)
-unfolding behind_argument
-behind-argument-alike k closer given xs = fixed (is_block given) (behind_last closer) (behind_element closer) (behind_last closer) (behind_element closer) (last-alike k closer xs) (element-alike k closer xs)
+pub after-argument-alike : (k : ℕ) (closer : Shape) (given : Order) (xs : List Token) → Alike k (answer 0) xs (after_argument closer given xs) (after_argument closer given)
+unfolding after_argument
+after-argument-alike k closer given xs = fixed (is_block given) (after_last closer) (after_element closer) (after_last closer) (after_element closer) (last-alike k closer xs) (element-alike k closer xs)
 
 name_in : List (List ℕ) → Token → Option PlacedName
 name_in names t = if same_shape (shape_of t.kind) shape.Identifier then (if is_among names (words_of t.kind) then None else Some (record { name = words_of t.kind; span = t.span })) else None

@@ -1,4 +1,4 @@
--- Methods are read alike. A visibility is told by the `def` behind it.
+-- Methods are read alike. A visibility is told by the `def` after it.
 use Rattle.std.proofs.Common.{◌≡◌, ℕ, ◌-◌, Bool, true, false, ◌==◌, if◌then◌else◌, List, [], ◌∷◌, length, Option, Some, None, is_some, Ok, Err, refl, sym, ap, subst, ◌∙◌}
 use Rattle.srb_terms.specs.declared.span.Span.{Span}
 use Rattle.rb_tree.specs.Tokens.{shape_of}
@@ -22,7 +22,7 @@ use Rattle.rb_prefix_laws.proofs.Parameters.{parameters-alike}
 
 -- ---- the visibility
 
--- no visibility, whatever stands behind the token
+-- no visibility, whatever stands after the token
 none-far : (r : Token) (ts ys : List Token) → ((us : List Token) → visibility (r ∷ us) ≡ None) → first (r ∷ ts) ≡ first ys → visibility (r ∷ ts) ≡ visibility ys
 none-far r ts [] none e = absurd (cc)
 none-far r ts (u ∷ us) none e = let e' : r ≡ u = cc in none ts ∙ sym (none us) ∙ ap (λ t. visibility (t ∷ us)) e'

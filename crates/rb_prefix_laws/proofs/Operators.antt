@@ -1,4 +1,4 @@
--- Operations are read alike. A sign is told by the token behind it, and whether it belongs to a number by the one behind that.
+-- Operations are read alike. A sign is told by the token after it, and whether it belongs to a number by the one after that.
 use Rattle.std.proofs.Common.{◌≡◌, ℕ, suc, ◌+◌, ◌-◌, Bool, true, false, not, ◌&&◌, ◌||◌, if◌then◌else◌, List, [], ◌∷◌, Option, Some, None, refl, sym, ap, subst, ◌∙◌}
 use Rattle.rb_tree.specs.Tokens.{shape_of, same_shape}
 use Rattle.rb_tree.specs.declared.syntax.Binary.{Binary}
@@ -14,7 +14,7 @@ use Rattle.rb_expr.specs.declared.form.Form.TheVariants as form
 use Rattle.rb_expr.specs.Reading.{Parser, peek, sees, after}
 use Rattle.rb_expr.specs.Shapes.{level_of, ceiling, operator_between, sees_number, is_signed, is_sign, is_negation, prefix_by, prefix_of}
 use Rattle.rb_expr.specs.Operands.{post}
-use Rattle.rb_expr.specs.Operators.{unary_operation, binary_operation, prefixed_by, prefixed, powered, power, negated, climb_by, climb_from, climb, operation, alternatives, chosen, tern, tern_behind}
+use Rattle.rb_expr.specs.Operators.{unary_operation, binary_operation, prefixed_by, prefixed, powered, power, negated, climb_by, climb_from, climb, operation, alternatives, chosen, tern, tern_after}
 use Rattle.rb_rules.specs.Tokens.{Is}
 use Rattle.rb_grammar.proofs.Steps.{same}
 use Rattle.rb_grammar.proofs.Lists.{and-left, and-right}
@@ -201,6 +201,6 @@ module _ (nested other : Form → Bool → Parser Tree) (turns more : ℕ) (ih :
   unfolding tern
   tern-alike k fit xs = bind (operation-alike k fit 1 xs) (λ condition r. chosen-alike (k - 1) (less-fits fit) condition r)
 
-  pub behind-alike : (k : ℕ) → Fits turns more k → (left : Tree) (xs : List Token) → Alike k (any 0) xs (tern_behind nested turns free left xs) (tern_behind other more free left)
-  unfolding tern_behind
-  behind-alike k fit left xs = bind (powered-alike k fit left xs) (λ left r. bind (climb-alike k fit 1 left r) (λ condition r. chosen-alike k fit condition r))
+  pub after-alike : (k : ℕ) → Fits turns more k → (left : Tree) (xs : List Token) → Alike k (any 0) xs (tern_after nested turns free left xs) (tern_after other more free left)
+  unfolding tern_after
+  after-alike k fit left xs = bind (powered-alike k fit left xs) (λ left r. bind (climb-alike k fit 1 left r) (λ condition r. chosen-alike k fit condition r))

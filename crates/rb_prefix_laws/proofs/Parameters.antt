@@ -11,7 +11,7 @@ use Rattle.rb_tree.specs.declared.token.Shape.TheVariants as shape
 use Rattle.rb_expr.specs.Reading.{Outcome, Parser, ◌>>=◌, pure, sees, after, skip_separators, expect}
 use Rattle.rb_expr.specs.Rules.{tern}
 use Rattle.rb_expr.specs.Grammar.{parsed}
-use Rattle.rb_decl.specs.Parameters.{parameter_of, stage_behind, fresh, noted, is_first, is_last, plain, has_no_default, keyword, block, parameter, behind_comma, is_over, row_from, row, bracketed, bare, parameters_of}
+use Rattle.rb_decl.specs.Parameters.{parameter_of, stage_after, fresh, noted, is_first, is_last, plain, has_no_default, keyword, block, parameter, after_comma, is_over, row_from, row, bracketed, bare, parameters_of}
 use Rattle.rb_decl.specs.declared.parameter.Stage.{Stage}
 use Rattle.rb_decl.specs.declared.parameter.Stage.TheVariants as stages
 use Rattle.rb_prefix_laws.proofs.Steps.{Alike, bind, weaker, lower, answering, empty, one, choose, sees-one, done, refusing, like, taken-in, refused-at, expecting, stepping, skipping, narrow, Fits, less-fits, loop-at}
@@ -54,9 +54,9 @@ over stage xs e = go (is_last stage) (sees shape.Comma xs) e
     go false true e = refl
     go false false e = absurd (cc)
 
-comma-behind : {A : Type 0} (k : ℕ) (in_brackets : Bool) (p q : Parser A) (xs : List Token) → sees shape.Comma xs ≡ true → ((zs : List Token) → Alike (k - 1) (any 0) zs (p zs) q) → Alike k (any 1) xs (p (behind_comma in_brackets xs)) (λ ys. q (behind_comma in_brackets ys))
-comma-behind k true p q xs e h = stepping xs (λ ys. p (skip_separators ys)) (λ ys. q (skip_separators ys)) shape.Comma e (skipping (after xs) p q (h (skip_separators (after xs))))
-comma-behind k false p q xs e h = stepping xs p q shape.Comma e (h (after xs))
+comma-after : {A : Type 0} (k : ℕ) (in_brackets : Bool) (p q : Parser A) (xs : List Token) → sees shape.Comma xs ≡ true → ((zs : List Token) → Alike (k - 1) (any 0) zs (p zs) q) → Alike k (any 1) xs (p (after_comma in_brackets xs)) (λ ys. q (after_comma in_brackets ys))
+comma-after k true p q xs e h = stepping xs (λ ys. p (skip_separators ys)) (λ ys. q (skip_separators ys)) shape.Comma e (skipping (after xs) p q (h (skip_separators (after xs))))
+comma-after k false p q xs e h = stepping xs p q shape.Comma e (h (after xs))
 
 module _ (turns more : ℕ) where
   default-alike : (k : ℕ) → Fits turns more k → (xs : List Token) → Alike k (any 0) xs (tern turns xs) (tern more)
@@ -89,10 +89,10 @@ module _ (turns more : ℕ) where
   row-alike : (k : ℕ) → Fits turns more k → (in_brackets : Bool) (xs : List Token) → Alike k (any 0) xs (row turns in_brackets xs) (row more in_brackets)
   unfolding row row_from
   row-alike k fit in_brackets xs = loop-at {S = Stage × List (List ℕ) × List (Parameter Tree)} turns more (λ n s. row_from turns in_brackets n s.0 s.1 s.2) (λ n s. row_from more in_brackets n s.0 s.1 s.2)
-      (λ k n m fit again s xs. weaker (bind (parameter-alike k fit s.0 s.1 xs) (λ x r. choose (is_over (stage_behind x.kind)) (one (is_over (stage_behind x.kind)) (λ t ts. refl))
+      (λ k n m fit again s xs. weaker (bind (parameter-alike k fit s.0 s.1 xs) (λ x r. choose (is_over (stage_after x.kind)) (one (is_over (stage_after x.kind)) (λ t ts. refl))
       (λ e. done _)
-      (λ e. weaker (comma-behind (k - 1) in_brackets (row_from turns in_brackets n (stage_behind x.kind) (noted s.1 x.name) (s.2 ++ x ∷ [])) (row_from more in_brackets m (stage_behind x.kind) (noted s.1 x.name) (s.2 ++ x ∷ [])) r (over (stage_behind x.kind) r e)
-      (λ zs. narrow (once (k - 1)) (again (stage_behind x.kind, noted s.1 x.name, s.2 ++ x ∷ []) zs)))))))
+      (λ e. weaker (comma-after (k - 1) in_brackets (row_from turns in_brackets n (stage_after x.kind) (noted s.1 x.name) (s.2 ++ x ∷ [])) (row_from more in_brackets m (stage_after x.kind) (noted s.1 x.name) (s.2 ++ x ∷ [])) r (over (stage_after x.kind) r e)
+      (λ zs. narrow (once (k - 1)) (again (stage_after x.kind, noted s.1 x.name, s.2 ++ x ∷ []) zs)))))))
       k fit (stages.Required, [], []) xs
 
   bracketed-alike : (k : ℕ) → Fits turns more k → (xs : List Token) → Alike k (any 0) xs (bracketed turns xs) (bracketed more)

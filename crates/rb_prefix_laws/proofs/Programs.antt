@@ -31,12 +31,12 @@ again-same {A = A} {K = K} k xs o q h small =
     own (Ok p) = refl
     own (Err rest) = refl
 
--- and of others that differ behind the next token
-pub again-other : {A : Type 0} {K : Amount} (k : ℕ) (before : List Token) (next : Token) (behind others : List Token) (o : Outcome A) (q : Parser A) → Alike k K (before ++ next ∷ behind) o q → length (before ++ next ∷ behind) < k → length (before ++ next ∷ others) < k →
-    rest_of o ≡ next ∷ behind → q (before ++ next ∷ others) ≡ instead o (next ∷ others)
-again-other k before next behind others o q h small little e =
+-- and of others that differ after the next token
+pub again-other : {A : Type 0} {K : Amount} (k : ℕ) (before : List Token) (next : Token) (after others : List Token) (o : Outcome A) (q : Parser A) → Alike k K (before ++ next ∷ after) o q → length (before ++ next ∷ after) < k → length (before ++ next ∷ others) < k →
+    rest_of o ≡ next ∷ after → q (before ++ next ∷ others) ≡ instead o (next ∷ others)
+again-other k before next after others o q h small little e =
     let r = h.runs small in
-    let front : r.front ≡ before = same-front r.front before (next ∷ behind) (ap (λ us. r.front ++ us) (sym e) ∙ sym r.reads) in
+    let front : r.front ≡ before = same-front r.front before (next ∷ after) (ap (λ us. r.front ++ us) (sym e) ∙ sym r.reads) in
     let little' : length (r.front ++ next ∷ others) < k = subst (λ c. length (c ++ next ∷ others) < k) (sym front) little in
     ap (λ c. q (c ++ next ∷ others)) (sym front) ∙ r.again (next ∷ others) (ap first e) little'
 
@@ -59,11 +59,11 @@ refused-rest (Ok (found, [])) t ts us e = absurd (cc)
 refused-rest (Ok (found, u ∷ vs)) t ts us e = (cc, refl)
 refused-rest (Err rest) t ts us e = (cc, refl)
 
-pub refused-alike : (d : ℕ) (before : List Token) (bad : Token) (behind others : List Token) → length (before ++ bad ∷ behind) < d → length (before ++ bad ∷ others) < d → program d (before ++ bad ∷ behind) ≡ Err (bad ∷ behind) → program d (before ++ bad ∷ others) ≡ Err (bad ∷ others)
+pub refused-alike : (d : ℕ) (before : List Token) (bad : Token) (after others : List Token) → length (before ++ bad ∷ after) < d → length (before ++ bad ∷ others) < d → program d (before ++ bad ∷ after) ≡ Err (bad ∷ after) → program d (before ++ bad ∷ others) ≡ Err (bad ∷ others)
 unfolding program
-refused-alike d before bad behind others a b e =
-    let r = refused-rest (statements (item d true) d (before ++ bad ∷ behind)) bad behind others e in
-    ap program_of (again-other d before bad behind others (statements (item d true) d (before ++ bad ∷ behind)) (statements (item d true) d) (all-alike d d d (omega arith) (omega arith) (before ++ bad ∷ behind)) a b r.0) ∙ r.1
+refused-alike d before bad after others a b e =
+    let r = refused-rest (statements (item d true) d (before ++ bad ∷ after)) bad after others e in
+    ap program_of (again-other d before bad after others (statements (item d true) d (before ++ bad ∷ after)) (statements (item d true) d) (all-alike d d d (omega arith) (omega arith) (before ++ bad ∷ after)) a b r.0) ∙ r.1
 
 -- what is refused is an end
 refused-end : (o : Outcome (List Tree)) (rest : List Token) → program_of o ≡ Err rest → rest_of o ≡ rest

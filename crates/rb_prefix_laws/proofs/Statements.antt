@@ -19,13 +19,13 @@ use Rattle.rb_expr.specs.declared.form.Form.TheVariants as form
 use Rattle.rb_expr.specs.Operators.{tern}
 use Rattle.rb_expr.specs.Reading.{Parser, peek, sees, skip_separators}
 use Rattle.rb_expr.specs.Shapes.{begins_statement, has_value, is_negation, prefix_of, has_prefix, jump_of}
-use Rattle.rb_expr.specs.Statements.{ending_of, follower_of, modifier_behind, body_start, ended, assigned, operator_assigned, command, followed_by, followed, from_operand, value, jump_value, jump, simple_by, simple, modified, modifiers_by, modifiers_from, modifiers, statement, body_from, statements, body}
+use Rattle.rb_expr.specs.Statements.{ending_of, follower_of, modifier_after, body_start, ended, assigned, operator_assigned, command, followed_by, followed, from_operand, value, jump_value, jump, simple_by, simple, modified, modifiers_by, modifiers_from, modifiers, statement, body_from, statements, body}
 use Rattle.rb_prefix_laws.proofs.Steps.{Alike, Looks, Same, bind, weaker, one, looking, choose, choosing, sees-one, done, refusing, taking, expecting, stepping-over, skipping, narrow, Fits, less-fits, loop-at}
 use Rattle.rb_prefix_laws.proofs.Steps.Amount.{answer, any}
 use Rattle.rb_prefix_laws.proofs.Nested.{grip_by, grip, Nests}
 use Rattle.rb_prefix_laws.proofs.Calls.{bare-alike, command-block-alike}
 use Rattle.rb_prefix_laws.proofs.Suffixes.{post-alike}
-use Rattle.rb_prefix_laws.proofs.Operators.{negation-far, prefix-far, tern-alike, behind-alike}
+use Rattle.rb_prefix_laws.proofs.Operators.{negation-far, prefix-far, tern-alike, after-alike}
 
 has-prefix-far : (xs ys : List Token) → Same (grip xs) xs ys → has_prefix xs ≡ has_prefix ys
 unfolding has_prefix
@@ -54,7 +54,7 @@ once : (k : ℕ) → k - 1 ≤ k
 once k = omega arith
 
 module _ (nested other : Form → Bool → Parser Tree) (turns more : ℕ) (ih : Nests nested other turns more) (free : Bool) where
-  -- ---- behind an operand
+  -- ---- after an operand
 
   assigned-alike : (k : ℕ) → Fits turns more k → (target : Tree) (xs : List Token) → Alike (k - 1) (any 0) xs (assigned nested turns free target xs) (assigned other more free target)
   unfolding assigned
@@ -72,7 +72,7 @@ module _ (nested other : Form → Bool → Parser Tree) (turns more : ℕ) (ih :
   followed-by-alike k fit first follower.Value xs = assigned-alike k fit first xs
   followed-by-alike k fit first (follower.Operator operator) xs = operator-assigned-alike k fit operator first xs
   followed-by-alike k fit first follower.Arguments xs = command-alike k fit first xs
-  followed-by-alike k fit first follower.Operators xs = behind-alike nested other turns more ih free (k - 1) (less-fits fit) first xs
+  followed-by-alike k fit first follower.Operators xs = after-alike nested other turns more ih free (k - 1) (less-fits fit) first xs
 
   followed-alike : (k : ℕ) → Fits turns more k → (constants : Bool) (first : Tree) (xs : List Token) → Alike (k - 1) (any 0) xs (followed nested turns free constants first xs) (followed other more free constants first)
   unfolding followed
@@ -120,14 +120,14 @@ module _ (nested other : Form → Bool → Parser Tree) (turns more : ℕ) (ih :
   modifiers-by-alike k fit again again2 h inner None xs = done _
   modifiers-by-alike k fit again again2 h inner (Some word) xs = weaker (bind (modified-alike k fit word inner xs) (λ longer r. h longer r))
 
-  modifier-one : (inner : Tree) → Looks (λ ys. modifier_behind inner (peek ys))
-  modifier-one inner = one (λ ys. modifier_behind inner (peek ys)) (λ t ts. refl)
+  modifier-one : (inner : Tree) → Looks (λ ys. modifier_after inner (peek ys))
+  modifier-one inner = one (λ ys. modifier_after inner (peek ys)) (λ t ts. refl)
 
   modifiers-alike : (k : ℕ) → Fits turns more k → (inner : Tree) (xs : List Token) → Alike k (any 0) xs (modifiers nested turns free inner xs) (modifiers other more free inner)
   unfolding modifiers modifiers_from
   modifiers-alike k fit inner xs = loop-at {S = Tree} turns more (λ n s. modifiers_from nested turns free n s) (λ n s. modifiers_from other more free n s)
-      (λ k n m fit again s xs. looking (λ ys. modifier_behind s (peek ys)) (modifiers_by other more free (modifiers_from other more free m) s) (modifier-one s)
-      (modifiers-by-alike k fit (modifiers_from nested turns free n) (modifiers_from other more free m) again s (modifier_behind s (peek xs)) xs))
+      (λ k n m fit again s xs. looking (λ ys. modifier_after s (peek ys)) (modifiers_by other more free (modifiers_from other more free m) s) (modifier-one s)
+      (modifiers-by-alike k fit (modifiers_from nested turns free n) (modifiers_from other more free m) again s (modifier_after s (peek xs)) xs))
       k fit inner xs
 
   pub statement-alike : (k : ℕ) → Fits turns more k → (constants : Bool) (xs : List Token) → Alike k (answer (grip xs)) xs (statement nested turns free constants xs) (statement other more free constants)

@@ -1,4 +1,4 @@
--- That a rule reads alike whatever stands behind the next token, and how that goes through the steps that rules are made of.
+-- That a rule reads alike whatever stands after the next token, and how that goes through the steps that rules are made of.
 use Rattle.std.proofs.Common.{◌≡◌, ℕ, zero, suc, ◌-◌, ◌≤◌, ◌<◌, ◌+◌, Bool, true, false, if◌then◌else◌, List, [], ◌∷◌, ◌++◌, length, Option, Some, None, Ok, Err, refl, sym, ap, subst, ◌∙◌, append_assoc, length-append, arith}
 use Rattle.rb_tree.specs.Tokens.{shape_of, same_shape}
 use Rattle.rb_tree.specs.declared.syntax.PlacedName.{PlacedName}
@@ -73,14 +73,14 @@ empty-first : (ys : List Token) → None ≡ first ys → ys ≡ []
 empty-first [] e = refl
 empty-first (y ∷ ys) e = absurd (cc)
 
-first-behind : (d rest ys : List Token) → first rest ≡ first ys → first (d ++ rest) ≡ first (d ++ ys)
-first-behind [] rest ys e = e
-first-behind (x ∷ d) rest ys e = refl
+first-after : (d rest ys : List Token) → first rest ≡ first ys → first (d ++ rest) ≡ first (d ++ ys)
+first-after [] rest ys e = e
+first-after (x ∷ d) rest ys e = refl
 
-pub same-behind : (n : ℕ) (d rest ys : List Token) → n ≤ length d → first rest ≡ first ys → Same n (d ++ rest) (d ++ ys)
-same-behind zero d rest ys le e = first-behind d rest ys e
-same-behind (suc n) [] rest ys le e = absurd (let h : ⊥ = omega arith in h)
-same-behind (suc n) (x ∷ d) rest ys le e = (refl, same-behind n d rest ys (let h : n ≤ length d = omega arith in h) e)
+pub same-after : (n : ℕ) (d rest ys : List Token) → n ≤ length d → first rest ≡ first ys → Same n (d ++ rest) (d ++ ys)
+same-after zero d rest ys le e = first-after d rest ys e
+same-after (suc n) [] rest ys le e = absurd (let h : ⊥ = omega arith in h)
+same-after (suc n) (x ∷ d) rest ys le e = (refl, same-after n d rest ys (let h : n ≤ length d = omega arith in h) e)
 
 pub same-first : (n : ℕ) (xs ys : List Token) → Same n xs ys → first xs ≡ first ys
 same-first zero xs ys h = h
@@ -139,7 +139,7 @@ bind-all {A = A} {B = B} {k = k} {K = K} {L = L} {xs = xs} {o = o} {q = q} {f = 
               let assoc = append_assoc r.front s.front ys in
               let little' : length (r.front ++ (s.front ++ ys)) < k = subst (λ us. length us < k) assoc little in
               subst (λ zs. and_then (q zs) (g zs) ≡ instead (f p.0 p.1) ys) (sym assoc)
-              (ap (λ o. and_then o (g (r.front ++ (s.front ++ ys)))) (r.again (s.front ++ ys) (ap first s.reads ∙ first-behind s.front (rest_of (f p.0 p.1)) ys e) little')
+              (ap (λ o. and_then o (g (r.front ++ (s.front ++ ys)))) (r.again (s.front ++ ys) (ap first s.reads ∙ first-after s.front (rest_of (f p.0 p.1)) ys e) little')
               ∙ s.again ys e (fits K p k r.front (s.front ++ ys) r.taken little'));
         }
 
@@ -216,9 +216,9 @@ one {T = T} look h xs ys e = by xs ∙ ap (λ o. look (of-first o)) e ∙ sym (b
     by (t ∷ ts) = h t ts
 
 reached : {A : Type 0} (K : Amount) (o : Outcome A) (d ys : List Token) → Consumed K o d → first (rest_of o) ≡ first ys → Same (reach K) (d ++ rest_of o) (d ++ ys)
-reached (answer n) (Ok p) d ys t e = same-behind n d p.1 ys t.1 e
-reached (answer n) (Err rest) d ys t e = same-behind n d rest ys t e
-reached (any n) o d ys t e = same-behind n d (rest_of o) ys t e
+reached (answer n) (Ok p) d ys t e = same-after n d p.1 ys t.1 e
+reached (answer n) (Err rest) d ys t e = same-after n d rest ys t e
+reached (any n) o d ys t e = same-after n d (rest_of o) ys t e
 
 -- by what a test says
 pub looking-far : {A T : Type 0} {k : ℕ} {K : Amount} {xs : List Token} {o : Outcome A} (look : List Token → T) (q : T → Parser A) → ((ys : List Token) → Same (reach K) xs ys → look xs ≡ look ys) → Alike k K xs o (q (look xs)) → Alike k K xs o (λ ys. q (look ys) ys)
@@ -394,7 +394,7 @@ not-separator xs o q none h = record {
     reads = r.reads;
     taken = r.taken;
     again = λ ys e little.
-        let same' : first xs ≡ first (r.front ++ ys) = ap first r.reads ∙ first-behind r.front (rest_of o) ys e in
+        let same' : first xs ≡ first (r.front ++ ys) = ap first r.reads ∙ first-after r.front (rest_of o) ys e in
         ap q (no-separator (r.front ++ ys) (sym (sees-one shape.Separator xs (r.front ++ ys) same') ∙ none)) ∙ r.again ys e little;
   };
 }
@@ -417,7 +417,7 @@ in-front {A = A} {k = k} {K = K} t ts o q h = record {
     more (answer n) (Err rest) front le = let m : n ≤ length front = le in omega arith
     more (any n) o front le = let m : n ≤ length front = le in omega arith
 
--- an outcome of what stands behind separators
+-- an outcome of what stands after separators
 skipped : {A : Type 0} {k : ℕ} {K : Amount} (xs : List Token) (o : Outcome A) (q : Parser A) → Alike k K (skip_separators xs) o q → Alike k K xs o (λ ys. q (skip_separators ys))
 skipped [] o q h = not-separator [] o q refl h
 skipped {A = A} {k = k} {K = K} (t ∷ ts) o q h = go (same_shape (shape_of t.kind) shape.Separator) refl (λ h. skipped ts o q h) h
@@ -429,7 +429,7 @@ skipped {A = A} {k = k} {K = K} (t ∷ ts) o q h = go (same_shape (shape_of t.ki
 pub skipping : {A : Type 0} {k : ℕ} {K : Amount} (xs : List Token) (p q : Parser A) → Alike k K (skip_separators xs) (p (skip_separators xs)) q → Alike k K xs (p (skip_separators xs)) (λ ys. q (skip_separators ys))
 skipping xs p q h = skipped xs (p (skip_separators xs)) q h
 
--- behind at least one separator
+-- after at least one separator
 pub stepping-over : {A : Type 0} {k n : ℕ} (xs : List Token) (p q : Parser A) → sees shape.Separator xs ≡ true → Alike (k - 1) (any n) (skip_separators xs) (p (skip_separators xs)) q → Alike k (any (suc n)) xs (p (skip_separators xs)) (λ ys. q (skip_separators ys))
 stepping-over [] p q e h = absurd (cc)
 stepping-over {A = A} {k = k} {n = n} (t ∷ ts) p q e h =
@@ -461,7 +461,7 @@ loops {S = S} {A = A} turns other loop again turn k zero m f a b s xs = let e : 
 loops {S = S} {A = A} turns other loop again turn k (suc n) zero f a b s xs = let e : k ≡ zero = omega arith in subst (λ k. Alike k (any 0) xs (loop (suc n) s xs) (again zero s)) (sym e) nothing
 loops {S = S} {A = A} turns other loop again turn k (suc n) (suc m) f a b s xs = turn k n m f (λ s xs. loops turns other loop again turn (k - 1) n m (less-fits f) (omega arith) (omega arith) s xs) s xs
 
--- likewise for a loop that stands behind something taken
+-- likewise for a loop that stands after something taken
 pub loops-in : {S A : Type 0} (turns other : ℕ) (loop again : ℕ → S → Parser A) →
     ((k n m : ℕ) → Fits turns other k → ((s : S) (xs : List Token) → Alike (k - 1 - 1) (any 0) xs (loop n s xs) (again m s)) → (s : S) (xs : List Token) → Alike (k - 1) (any 0) xs (loop (suc n) s xs) (again (suc m) s)) →
     (k n m : ℕ) → Fits turns other k → k - 1 ≤ n → k - 1 ≤ m → (s : S) (xs : List Token) → Alike (k - 1) (any 0) xs (loop n s xs) (again m s)

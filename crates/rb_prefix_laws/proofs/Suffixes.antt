@@ -31,23 +31,23 @@ got-in [] i xs ys h = absurd (let f : ⊥ = omega arith in f)
 got-in (t ∷ c) zero xs ys h = refl
 got-in (t ∷ c) (suc i) xs ys h = got-in c i xs ys (let l : i < length c = omega arith in l)
 
-got-behind : (c xs ys : List Token) → first xs ≡ first ys → slice_get (c ++ xs) (length c - 1) ≡ slice_get (c ++ ys) (length c - 1)
-got-behind [] xs ys e = got-first xs ys e
-got-behind (t ∷ c) xs ys e = got-in (t ∷ c) (length (t ∷ c) - 1) xs ys (omega arith)
+got-after : (c xs ys : List Token) → first xs ≡ first ys → slice_get (c ++ xs) (length c - 1) ≡ slice_get (c ++ ys) (length c - 1)
+got-after [] xs ys e = got-first xs ys e
+got-after (t ∷ c) xs ys e = got-in (t ∷ c) (length (t ∷ c) - 1) xs ys (omega arith)
 
 place : (c xs : List Token) → length (c ++ xs) - length xs - 1 ≡ length c - 1
 place c xs = let e : length (c ++ xs) ≡ length c + length xs = length-append c xs in omega arith
 
-index-behind : (before : Option Token) → Looks (is_index_after before)
-index-behind None = one (is_index_after None) (λ t ts. refl)
-index-behind (Some before) = one (is_index_after (Some before)) (λ t ts. refl)
+index-after : (before : Option Token) → Looks (is_index_after before)
+index-after None = one (is_index_after None) (λ t ts. refl)
+index-after (Some before) = one (is_index_after (Some before)) (λ t ts. refl)
 
 index-one : (c : List Token) → Looks (λ ys. is_index (c ++ ys) ys)
 unfolding is_index
 index-one c xs ys e =
     ap (λ i. is_index_after (slice_get (c ++ xs) i) xs) (place c xs)
-    ∙ ap (λ before. is_index_after before xs) (got-behind c xs ys e)
-    ∙ index-behind (slice_get (c ++ ys) (length c - 1)) xs ys e
+    ∙ ap (λ before. is_index_after before xs) (got-after c xs ys e)
+    ∙ index-after (slice_get (c ++ ys) (length c - 1)) xs ys e
     ∙ ap (λ i. is_index_after (slice_get (c ++ ys) i) ys) (sym (place c ys))
 
 module _ (nested other : Form → Bool → Parser Tree) (turns more : ℕ) (ih : Nests nested other turns more) (free : Bool) where

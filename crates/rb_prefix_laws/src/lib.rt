@@ -6,7 +6,7 @@
 ghost use Rattle.rb_prefix_laws.specs.Examples.{ShallowLooksFurther};
 ghost use Rattle.rb_prefix_laws.specs.Laws.{FormsAreRefusedAlike, FormsEndAlike, FormsNeedNoMoreDepth, ProgramsNeedNoMoreDepth, RefusalsAreEnds, RefusalsLookNoFurther};
 
-/// A form is refused at the same token, or read to the same end, whatever stands behind that token. A depth that is enough for the
+/// A form is refused at the same token, or read to the same end, whatever stands after that token. A depth that is enough for the
 /// tokens plays no part.
 pub fn forms_look_no_further()
     ensures refused { FormsAreRefusedAlike }
@@ -14,7 +14,7 @@ pub fn forms_look_no_further()
     ensures depth { FormsNeedNoMoreDepth }
 {}
 
-/// A program is refused at the same token, whatever stands behind that.
+/// A program is refused at the same token, whatever stands after that.
 pub fn refusals_look_no_further()
     ensures refused { RefusalsLookNoFurther }
     ensures depth { ProgramsNeedNoMoreDepth }

@@ -20,7 +20,7 @@ refused-token tokens all rest t ts whole' e =
     record {
       before = h.0;
       bad = t;
-      behind = ts ++ rest;
+      after = ts ++ rest;
       whole = whole' ∙ ap (λ us. us ++ rest) h.1 ∙ append_assoc h.0 (t ∷ ts) rest;
       place = refl;
       none = no-program-begins-so h.0 t ts e';

@@ -24,11 +24,11 @@ use Rattle.rb_refusal_laws.specs.Examples.{CLOSED, AWAITED, LOOPED, BracketIsBad
 use Rattle.rb_refusal_laws.proofs.Places.{bad-token, ends-early}
 
 closed : program 5 CLOSED ≡ Err (token kind.CloseParen 2 3 ∷ token (kind.Whole (codes "2")) 4 5 ∷ [])
-unfolding program items.statements items.statements_from items.item methods.visibility rules.statement st.statement st.simple st.value shapes.has_prefix shapes.is_negation shapes.prefix_of shapes.is_sign st.from_operand operands.post operands.primary operands.number operands.suffixes operands.suffixes_from operands.a_suffix st.followed st.ending_of st.follower_of operators.tern_behind operators.powered operators.climb operators.climb_from shapes.operator_between operators.chosen st.modifiers st.modifiers_from st.modifier_behind shape_of same_shape trees.out-Node carrier.out
+unfolding program items.statements items.statements_from items.item methods.visibility rules.statement st.statement st.simple st.value shapes.has_prefix shapes.is_negation shapes.prefix_of shapes.is_sign st.from_operand operands.post operands.primary operands.number operands.suffixes operands.suffixes_from operands.a_suffix st.followed st.ending_of st.follower_of operators.tern_after operators.powered operators.climb operators.climb_from shapes.operator_between operators.chosen st.modifiers st.modifiers_from st.modifier_after shape_of same_shape trees.out-Node carrier.out
 closed = refl
 
 closed-parsed : parsed CLOSED ≡ Err (Bad 2)
-unfolding sorts.sort_of effects.effect_of scans.done whole program items.statements items.statements_from items.item methods.visibility rules.statement st.statement st.simple st.value shapes.has_prefix shapes.is_negation shapes.prefix_of shapes.is_sign st.from_operand operands.post operands.primary operands.number operands.suffixes operands.suffixes_from operands.a_suffix st.followed st.ending_of st.follower_of operators.tern_behind operators.powered operators.climb operators.climb_from shapes.operator_between operators.chosen st.modifiers st.modifiers_from st.modifier_behind shape_of same_shape trees.out-Node carrier.out
+unfolding sorts.sort_of effects.effect_of scans.done whole program items.statements items.statements_from items.item methods.visibility rules.statement st.statement st.simple st.value shapes.has_prefix shapes.is_negation shapes.prefix_of shapes.is_sign st.from_operand operands.post operands.primary operands.number operands.suffixes operands.suffixes_from operands.a_suffix st.followed st.ending_of st.follower_of operators.tern_after operators.powered operators.climb operators.climb_from shapes.operator_between operators.chosen st.modifiers st.modifiers_from st.modifier_after shape_of same_shape trees.out-Node carrier.out
 closed-parsed = refl
 
 awaited : program 4 AWAITED ≡ Err []
@@ -40,11 +40,11 @@ unfolding sorts.sort_of effects.effect_of scans.done whole program items.stateme
 awaited-parsed = refl
 
 looped : program 9 LOOPED ≡ Err (token kind.While 12 17 ∷ token (kind.Identifier (codes "f")) 18 19 ∷ [])
-unfolding program items.statements items.statements_from items.item methods.visibility rules.statement st.statement st.simple st.value st.from_operand st.followed st.follower_of st.ending_of st.is_begin st.may_modify st.modifier_behind st.modifiers st.modifiers_from st.body st.statements st.body_from st.ended shapes.begins_statement shapes.has_prefix shapes.is_negation shapes.prefix_of shapes.is_sign shapes.is_signed shapes.sees_number shapes.is_index shapes.operator_between grammar.parsed operators.tern_behind operators.powered operators.climb operators.climb_from operators.chosen operands.post operands.suffixes operands.suffixes_from operands.a_suffix operands.primary operands.number branches.guards branches.guarded branches.rescues branches.rescues_from branches.otherwise_behind branches.ensure trees.out-Node carrier.out shape_of same_shape
+unfolding program items.statements items.statements_from items.item methods.visibility rules.statement st.statement st.simple st.value st.from_operand st.followed st.follower_of st.ending_of st.is_begin st.may_modify st.modifier_after st.modifiers st.modifiers_from st.body st.statements st.body_from st.ended shapes.begins_statement shapes.has_prefix shapes.is_negation shapes.prefix_of shapes.is_sign shapes.is_signed shapes.sees_number shapes.is_index shapes.operator_between grammar.parsed operators.tern_after operators.powered operators.climb operators.climb_from operators.chosen operands.post operands.suffixes operands.suffixes_from operands.a_suffix operands.primary operands.number branches.guards branches.guarded branches.rescues branches.rescues_from branches.otherwise_after branches.ensure trees.out-Node carrier.out shape_of same_shape
 looped = refl
 
 looped-parsed : parsed LOOPED ≡ Err (Bad 12)
-unfolding sorts.sort_of effects.effect_of effects.behind effects.behind_plain scans.done whole program items.statements items.statements_from items.item methods.visibility rules.statement st.statement st.simple st.value st.from_operand st.followed st.follower_of st.ending_of st.is_begin st.may_modify st.modifier_behind st.modifiers st.modifiers_from st.body st.statements st.body_from st.ended shapes.begins_statement shapes.has_prefix shapes.is_negation shapes.prefix_of shapes.is_sign shapes.is_signed shapes.sees_number shapes.is_index shapes.operator_between grammar.parsed operators.tern_behind operators.powered operators.climb operators.climb_from operators.chosen operands.post operands.suffixes operands.suffixes_from operands.a_suffix operands.primary operands.number branches.guards branches.guarded branches.rescues branches.rescues_from branches.otherwise_behind branches.ensure trees.out-Node carrier.out shape_of same_shape
+unfolding sorts.sort_of effects.effect_of effects.after effects.after_plain scans.done whole program items.statements items.statements_from items.item methods.visibility rules.statement st.statement st.simple st.value st.from_operand st.followed st.follower_of st.ending_of st.is_begin st.may_modify st.modifier_after st.modifiers st.modifiers_from st.body st.statements st.body_from st.ended shapes.begins_statement shapes.has_prefix shapes.is_negation shapes.prefix_of shapes.is_sign shapes.is_signed shapes.sees_number shapes.is_index shapes.operator_between grammar.parsed operators.tern_after operators.powered operators.climb operators.climb_from operators.chosen operands.post operands.suffixes operands.suffixes_from operands.a_suffix operands.primary operands.number branches.guards branches.guarded branches.rescues branches.rescues_from branches.otherwise_after branches.ensure trees.out-Node carrier.out shape_of same_shape
 looped-parsed = refl
 
 pub bracket-is-bad : BracketIsBad

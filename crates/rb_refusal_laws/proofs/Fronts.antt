@@ -9,10 +9,10 @@ pub front-begins : (xs ys : List Token) → Begins (xs ++ ys) → Begins xs
 front-begins xs ys (more, t, d) = (ys ++ more, t, subst (λ us. Derives us t) (append_assoc xs ys more) d)
 
 -- the tokens up to and with one of them
-pub begins-with : (tokens before : List Token) (bad : Token) (behind : List Token) → tokens ≡ before ++ bad ∷ behind → Begins tokens → Begins (before ++ bad ∷ [])
-begins-with tokens before bad behind e b = front-begins (before ++ bad ∷ []) behind (subst Begins (e ∙ sym (append_assoc before (bad ∷ []) behind)) b)
+pub begins-with : (tokens before : List Token) (bad : Token) (after : List Token) → tokens ≡ before ++ bad ∷ after → Begins tokens → Begins (before ++ bad ∷ [])
+begins-with tokens before bad after e b = front-begins (before ++ bad ∷ []) after (subst Begins (e ∙ sym (append_assoc before (bad ∷ []) after)) b)
 
--- the second list goes on behind the first with this token
+-- the second list goes on after the first with this token
 abbrev Extends : List Token → Token → List Token → Type 0
 Extends xs a ys = (more : List Token) × (ys ≡ xs ++ a ∷ more)
 
@@ -20,13 +20,13 @@ longer : (x : Token) (xs ys : List Token) (a : Token) → Extends xs a ys → Ex
 longer x xs ys a (more, e) = (more, ap (λ us. x ∷ us) e)
 
 -- two fronts of one list
-pub front-longer : (xs ys before : List Token) (bad : Token) (behind : List Token) → xs ++ ys ≡ before ++ bad ∷ behind → length before < length xs → Extends before bad xs
-front-longer [] ys before bad behind e h = absurd (omega arith)
-front-longer (x ∷ xs) ys [] bad behind e h = let same : x ≡ bad = cc in (xs, ap (λ b. b ∷ xs) same)
-front-longer (x ∷ xs) ys (b ∷ before) bad behind e h =
+pub front-longer : (xs ys before : List Token) (bad : Token) (after : List Token) → xs ++ ys ≡ before ++ bad ∷ after → length before < length xs → Extends before bad xs
+front-longer [] ys before bad after e h = absurd (omega arith)
+front-longer (x ∷ xs) ys [] bad after e h = let same : x ≡ bad = cc in (xs, ap (λ b. b ∷ xs) same)
+front-longer (x ∷ xs) ys (b ∷ before) bad after e h =
     let same : b ≡ x = cc in
-    let tails : xs ++ ys ≡ before ++ bad ∷ behind = cc in
-    subst (λ c. Extends (c ∷ before) bad (x ∷ xs)) (sym same) (longer x before xs bad (front-longer xs ys before bad behind tails (omega arith)))
+    let tails : xs ++ ys ≡ before ++ bad ∷ after = cc in
+    subst (λ c. Extends (c ∷ before) bad (x ∷ xs)) (sym same) (longer x before xs bad (front-longer xs ys before bad after tails (omega arith)))
 
 same-front : (xs ys : List Token) (a b : Token) (more others : List Token) → xs ++ a ∷ more ≡ ys ++ b ∷ others → ¬ Extends xs a ys → ¬ Extends ys b xs → (xs ≡ ys) × (a ≡ b)
 same-front [] [] a b more others e n m = (refl, cc)
@@ -41,13 +41,13 @@ same-front (x ∷ xs) (y ∷ ys) a b more others e n m =
     let fronts : xs ≡ ys = h.0 in
     (cc, h.1)
 
--- what begins a program goes on behind a front with no bad token
+-- what begins a program goes on after a front with no bad token
 not-bad : (before : List Token) (bad : Token) (ys : List Token) → ¬ Begins (before ++ bad ∷ []) → Begins ys → ¬ Extends before bad ys
 not-bad before bad ys none b (more, e) = none (begins-with ys before bad more e b)
 
 same-bad : (tokens : List Token) (a b : ℕ) (p : BadAt tokens a) (q : BadAt tokens b) → (p.before ≡ q.before) × (p.bad ≡ q.bad)
 same-bad tokens a b p q =
-    same-front p.before q.before p.bad q.bad p.behind q.behind (sym p.whole ∙ q.whole) (not-bad p.before p.bad q.before p.none q.begins) (not-bad q.before q.bad p.before q.none p.begins)
+    same-front p.before q.before p.bad q.bad p.after q.after (sym p.whole ∙ q.whole) (not-bad p.before p.bad q.before p.none q.begins) (not-bad q.before q.bad p.before q.none p.begins)
 
 pub one-front : OneFront
 one-front tokens a b p q = (same-bad tokens a b p q).0
@@ -57,7 +57,7 @@ one-place tokens a b p q = p.place ∙ ap (λ t. t.span.start) (same-bad tokens 
 
 -- what begins a program has no bad token
 pub none-bad : (tokens : List Token) (at : ℕ) → Begins tokens → ¬ BadAt tokens at
-none-bad tokens at b p = p.none (begins-with tokens p.before p.bad p.behind p.whole b)
+none-bad tokens at b p = p.none (begins-with tokens p.before p.bad p.after p.whole b)
 
 pub no-end-is-bad : NoEndIsBad
 no-end-is-bad tokens at early p = none-bad tokens at early.begins p

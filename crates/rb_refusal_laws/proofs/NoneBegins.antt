@@ -21,7 +21,7 @@ use Rattle.rb_refusal_laws.specs.NoneBegins.{CLOSED, NAMELESS, TWICE, GUARDED, L
 use Rattle.rb_refusal_laws.proofs.Begun.{no-program-begins-so}
 
 closed : program 4 CLOSED ≡ Err (token kind.CloseParen 2 3 ∷ [])
-unfolding program items.statements items.statements_from items.item methods.visibility rules.statement st.statement st.simple st.value shapes.has_prefix shapes.is_negation shapes.prefix_of shapes.is_sign st.from_operand operands.post operands.primary operands.number operands.suffixes operands.suffixes_from operands.a_suffix st.followed st.ending_of st.follower_of operators.tern_behind operators.powered operators.climb operators.climb_from shapes.operator_between operators.chosen st.modifiers st.modifiers_from st.modifier_behind shape_of same_shape trees.out-Node carrier.out
+unfolding program items.statements items.statements_from items.item methods.visibility rules.statement st.statement st.simple st.value shapes.has_prefix shapes.is_negation shapes.prefix_of shapes.is_sign st.from_operand operands.post operands.primary operands.number operands.suffixes operands.suffixes_from operands.a_suffix st.followed st.ending_of st.follower_of operators.tern_after operators.powered operators.climb operators.climb_from shapes.operator_between operators.chosen st.modifiers st.modifiers_from st.modifier_after shape_of same_shape trees.out-Node carrier.out
 closed = refl
 
 nameless : program 5 NAMELESS ≡ Err (token (kind.Whole (codes "1")) 2 3 ∷ [])
@@ -33,11 +33,11 @@ unfolding program items.statements items.statements_from items.item methods.visi
 twice = refl
 
 guarded : program 5 GUARDED ≡ Err (token kind.Rescue 8 14 ∷ [])
-unfolding program items.statements items.statements_from items.item methods.visibility rules.statement st.statement st.simple st.value st.from_operand st.followed st.follower_of st.ending_of st.is_begin st.may_modify st.modifier_behind st.modifiers st.modifiers_from st.body st.statements st.body_from st.ended shapes.begins_statement shapes.has_prefix shapes.is_negation shapes.prefix_of shapes.is_sign shapes.is_signed shapes.sees_number shapes.is_index shapes.operator_between grammar.parsed operators.tern_behind operators.powered operators.climb operators.climb_from operators.chosen operands.post operands.suffixes operands.suffixes_from operands.a_suffix operands.primary operands.called calls.optional_brackets calls.optional_block calls.any_block calls.optional_do branches.guards branches.guarded branches.rescues branches.rescues_from branches.otherwise_behind branches.ensure trees.out-Node carrier.out shape_of same_shape
+unfolding program items.statements items.statements_from items.item methods.visibility rules.statement st.statement st.simple st.value st.from_operand st.followed st.follower_of st.ending_of st.is_begin st.may_modify st.modifier_after st.modifiers st.modifiers_from st.body st.statements st.body_from st.ended shapes.begins_statement shapes.has_prefix shapes.is_negation shapes.prefix_of shapes.is_sign shapes.is_signed shapes.sees_number shapes.is_index shapes.operator_between grammar.parsed operators.tern_after operators.powered operators.climb operators.climb_from operators.chosen operands.post operands.suffixes operands.suffixes_from operands.a_suffix operands.primary operands.called calls.optional_brackets calls.optional_block calls.any_block calls.optional_do branches.guards branches.guarded branches.rescues branches.rescues_from branches.otherwise_after branches.ensure trees.out-Node carrier.out shape_of same_shape
 guarded = refl
 
 looped : program 5 LOOPED ≡ Err (token kind.While 10 15 ∷ [])
-unfolding program items.statements items.statements_from items.item methods.visibility rules.statement st.statement st.simple st.value st.from_operand st.followed st.follower_of st.ending_of st.is_begin st.may_modify st.modifier_behind st.modifiers st.modifiers_from st.body st.statements st.body_from st.ended shapes.begins_statement shapes.has_prefix shapes.is_negation shapes.prefix_of shapes.is_sign shapes.is_signed shapes.sees_number shapes.is_index shapes.operator_between grammar.parsed operators.tern_behind operators.powered operators.climb operators.climb_from operators.chosen operands.post operands.suffixes operands.suffixes_from operands.a_suffix operands.primary operands.called calls.optional_brackets calls.optional_block calls.any_block calls.optional_do branches.guards branches.guarded branches.rescues branches.rescues_from branches.otherwise_behind branches.ensure trees.out-Node carrier.out shape_of same_shape
+unfolding program items.statements items.statements_from items.item methods.visibility rules.statement st.statement st.simple st.value st.from_operand st.followed st.follower_of st.ending_of st.is_begin st.may_modify st.modifier_after st.modifiers st.modifiers_from st.body st.statements st.body_from st.ended shapes.begins_statement shapes.has_prefix shapes.is_negation shapes.prefix_of shapes.is_sign shapes.is_signed shapes.sees_number shapes.is_index shapes.operator_between grammar.parsed operators.tern_after operators.powered operators.climb operators.climb_from operators.chosen operands.post operands.suffixes operands.suffixes_from operands.a_suffix operands.primary operands.called calls.optional_brackets calls.optional_block calls.any_block calls.optional_do branches.guards branches.guarded branches.rescues branches.rescues_from branches.otherwise_after branches.ensure trees.out-Node carrier.out shape_of same_shape
 looped = refl
 
 pub none-is-closed : NoneIsClosed

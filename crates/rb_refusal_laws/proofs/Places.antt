@@ -33,7 +33,7 @@ bad-token tokens all rest t ts whole' e =
     record {
       before = h.0;
       bad = t;
-      behind = ts ++ rest;
+      after = ts ++ rest;
       whole = whole' ∙ ap (λ us. us ++ rest) h.1 ∙ append_assoc h.0 (t ∷ ts) rest;
       place = refl;
       begins = fronts-begin (length (h.0 ++ t ∷ ts) + 2) h.0 (t ∷ ts) e';

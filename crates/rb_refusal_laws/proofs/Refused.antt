@@ -27,20 +27,20 @@ order (suc m) (suc n) = next (order m n)
 -- ---- before a deep token
 
 -- where the tokens up to and with one begin a program, none of those is bad
-bad-behind : (tokens : List Token) (at turn bad : ℕ) → IsDeepAt tokens at turn → (p : BadAt tokens bad) → length p.before ≤ turn → ⊥
-bad-behind tokens at turn bad d p h =
+bad-after : (tokens : List Token) (at turn bad : ℕ) → IsDeepAt tokens at turn → (p : BadAt tokens bad) → length p.before ≤ turn → ⊥
+bad-after tokens at turn bad d p h =
     let few = take (turn + 1) tokens in
     let within : turn < length tokens = d.deep.within in
     let size : length few ≡ turn + 1 = length-take-le (turn + 1) tokens (omega arith) in
-    let fronts : few ++ drop (turn + 1) tokens ≡ p.before ++ p.bad ∷ p.behind = take-append-drop (turn + 1) tokens ∙ p.whole in
-    let more = front-longer few (drop (turn + 1) tokens) p.before p.bad p.behind fronts (omega arith) in
+    let fronts : few ++ drop (turn + 1) tokens ≡ p.before ++ p.bad ∷ p.after = take-append-drop (turn + 1) tokens ∙ p.whole in
+    let more = front-longer few (drop (turn + 1) tokens) p.before p.bad p.after fronts (omega arith) in
     p.none (begins-with few p.before p.bad more.0 more.1 d.begins)
 
 pub none-bad-before-deep : NoneBadBeforeDeep
 none-bad-before-deep tokens at turn bad d p = by (order (length p.before) turn)
   where
     by : (length p.before ≤ turn) ⊎ (turn < length p.before) → turn < length p.before
-    by (inl h) = absurd (bad-behind tokens at turn bad d p h)
+    by (inl h) = absurd (bad-after tokens at turn bad d p h)
     by (inr h) = h
 
 -- ---- bad tokens
@@ -54,7 +54,7 @@ cut-has-memory last (Ok t) h = cc
 cut-has-memory last (Err []) h = cc
 cut-has-memory last (Err (t ∷ ts)) h = cc
 
--- no answer is want of memory
+-- no answer is that memory ran out
 has-memory : (tokens : List Token) (place : Option ℕ) → parsed_by tokens place ≡ Err NoMemory → ⊥
 unfolding whole cut answer
 has-memory tokens None e = whole-has-memory tokens (program (length tokens + 2) tokens) e
@@ -70,7 +70,7 @@ bad-refused tokens at p first (Err (Bad a)) e = ap (λ n. Err (Bad n)) (by (bad-
     by : BadAt tokens a ⊎ (EndsEarly tokens × (a ≡ end_of tokens)) → a ≡ at
     by (inl q) = one-place tokens a at q p
     by (inr h) = absurd (no-end-is-bad tokens at h.0 p)
-bad-refused tokens at p first (Err (TooDeep a)) e = let d = deep-places-are-exact tokens a e in absurd (bad-behind tokens a d.0 at d.1 p (first d.0 d.1.deep))
+bad-refused tokens at p first (Err (TooDeep a)) e = let d = deep-places-are-exact tokens a e in absurd (bad-after tokens a d.0 at d.1 p (first d.0 d.1.deep))
 bad-refused tokens at p first (Err NoMemory) e = absurd (has-memory tokens (first_too_deep tokens 0 0 0) e)
 
 pub some-are-refused-before : SomeAreRefusedBefore
@@ -94,16 +94,16 @@ early-ends-are-refused tokens light early = early-refused tokens light early (pa
 
 -- ---- deep tokens
 
-none-deep-behind : (tokens : List Token) (a b : ℕ) → DeepAt tokens 0 0 a → DeepAt tokens 0 0 b → a < b → ⊥
-none-deep-behind tokens a b p q less = let light = q.first (a + 1) (omega arith) in let deep = p.deep in absurd (omega arith)
+none-deep-after : (tokens : List Token) (a b : ℕ) → DeepAt tokens 0 0 a → DeepAt tokens 0 0 b → a < b → ⊥
+none-deep-after tokens a b p q less = let light = q.first (a + 1) (omega arith) in let deep = p.deep in absurd (omega arith)
 
 one-deep : (tokens : List Token) (a b : ℕ) → DeepAt tokens 0 0 a → DeepAt tokens 0 0 b → a ≡ b
 one-deep tokens a b p q = by (order a b) (order b a)
   where
     by : (a ≤ b) ⊎ (b < a) → (b ≤ a) ⊎ (a < b) → a ≡ b
     by (inl h) (inl k) = omega arith
-    by (inr h) k = absurd (none-deep-behind tokens b a q p h)
-    by (inl h) (inr k) = absurd (none-deep-behind tokens a b p q k)
+    by (inr h) k = absurd (none-deep-after tokens b a q p h)
+    by (inl h) (inr k) = absurd (none-deep-after tokens a b p q k)
 
 cut-deep : (tokens : List Token) (last : ℕ) → Begins tokens → (r : Result Tree (List Token)) → program (length tokens + 2) tokens ≡ r → cut_of last r ≡ TooDeep last
 cut-deep tokens last b (Ok t) e = refl

@@ -8,7 +8,7 @@ use Rattle.rb_rules.specs.Grammar.{Begins, Derives}
 
 -- No program begins with the tokens up to and with the refused one.
 abbrev pub NoProgramBeginsSo : Type 0
-NoProgramBeginsSo = (before : List Token) (bad : Token) (behind : List Token) → program (length (before ++ bad ∷ behind) + 2) (before ++ bad ∷ behind) ≡ Err (bad ∷ behind) → ¬ Begins (before ++ bad ∷ [])
+NoProgramBeginsSo = (before : List Token) (bad : Token) (after : List Token) → program (length (before ++ bad ∷ after) + 2) (before ++ bad ∷ after) ≡ Err (bad ∷ after) → ¬ Begins (before ++ bad ∷ [])
 
 -- ---- the places of refusals
 
@@ -16,8 +16,8 @@ NoProgramBeginsSo = (before : List Token) (bad : Token) (behind : List Token) �
 pub record IsRefusedAt (tokens : List Token) (at : ℕ) : Type 0 where
   pub before : List Token
   pub bad : Token
-  pub behind : List Token
-  pub whole : tokens ≡ before ++ bad ∷ behind
+  pub after : List Token
+  pub whole : tokens ≡ before ++ bad ∷ after
   pub place : at ≡ bad.span.start
   pub none : ¬ Begins (before ++ bad ∷ [])
 

@@ -38,7 +38,7 @@ pub record IsDeepAt (tokens : List Token) (at turn : ℕ) : Type 0 where
 abbrev pub DeepPlacesAreExact : Type 0
 DeepPlacesAreExact = (tokens : List Token) (at : ℕ) → parsed tokens ≡ Err (TooDeep at) → (turn : ℕ) × IsDeepAt tokens at turn
 
--- The bad token, if there is one, stands behind that.
+-- The bad token, if there is one, stands after that.
 abbrev pub NoneBadBeforeDeep : Type 0
 NoneBadBeforeDeep = (tokens : List Token) (at turn bad : ℕ) → IsDeepAt tokens at turn → (p : BadAt tokens bad) → turn < length p.before
 

@@ -9,7 +9,7 @@ use Rattle.rb_rules.specs.Grammar.{Begins}
 abbrev pub CLOSED : List Token
 CLOSED = token (kind.Whole (codes "1")) 0 1 ∷ token kind.CloseParen 2 3 ∷ []
 
--- `x.1`: no name behind the dot
+-- `x.1`: no name after the dot
 abbrev pub NAMELESS : List Token
 NAMELESS = token (kind.Identifier (codes "x")) 0 1 ∷ token kind.Dot 1 2 ∷ token (kind.Whole (codes "1")) 2 3 ∷ []
 

@@ -32,14 +32,14 @@ pub fn one_place()
 {}
 
 /// Where tokens are refused for their depth, those up to and with the deep one begin a program: so the bad token, if there is one,
-/// stands behind it.
+/// stands after it.
 pub fn deep_places_are_exact()
     ensures deep { DeepPlacesAreExact }
     ensures none { NoneBadBeforeDeep }
 {}
 
 /// Tokens that nest too deep nowhere are refused at the bad one, or at their end if they end too early. The bad one is refused also
-/// where tokens behind it nest too deep.
+/// where tokens after it nest too deep.
 pub fn bad_tokens_are_refused()
     ensures tokens { BadTokensAreRefused }
     ensures ends { EarlyEndsAreRefused }

@@ -110,7 +110,7 @@ repeats modifier.Unless = false
 repeats modifier.While = true
 repeats modifier.Until = true
 
--- the word may modify the statement: `while` and `until` don't stand behind a `begin` with its `end` alone
+-- the word may modify the statement: `while` and `until` don't stand after a `begin` with its `end` alone
 abbrev pub MayModify : Modifier → Tree → Type 0
 MayModify word statement = (repeats word ≡ false) ⊎ (is_begin statement ≡ false)
 

@@ -1,5 +1,5 @@
 -- Which trees a list of tokens has: the grammar, a constructor for each production, with the further rules as conditions. Each form
--- stands between two lists: what it reads, and what is left behind it. `free` says that a call may take a `do`: not in the
+-- stands between two lists: what it reads, and what is left after it. `free` says that a call may take a `do`: not in the
 -- condition of a loop, nor in the arguments of a command, unless inside brackets.
 use Rattle.std.specs.Prelude.{◌≡◌, ◌≢◌, ℕ, suc, ◌<◌, ◌⊎◌, Bool, true, false, List, [], ◌∷◌, ◌++◌, codes, Option, Some, None, IsTrue}
 use Rattle.srb_terms.specs.declared.span.Span.{Span}
@@ -93,7 +93,7 @@ abbrev pub body_of : List Tree → Tree
 body_of [] = tree.Body [] (record { start = 0; end = 0 })
 body_of (s ∷ ss) = tree.Body (s ∷ ss) (across (span_of s) (span_of (last_of s ss)))
 
--- a plain call of a name behind a dot
+-- a plain call of a name after a dot
 abbrev pub named_call : Token → Dot → Token → List ℕ → Suffix Tree
 named_call d how n w = suffix.Call how w n.span None None (across d.span n.span)
 
@@ -120,7 +120,7 @@ pub data Gap : List Token → List Token → Type 0 where
   Closed : (xs : List Token) → Gap xs xs
   Wide : (t : Token) (xs ys : List Token) → Is shape.Separator t → Gap xs ys → Gap (t ∷ xs) ys
 
--- inside brackets separators may stand behind the opening bracket, behind `,` and before the closing bracket
+-- inside brackets separators may stand after the opening bracket, after `,` and before the closing bracket
 pub data GapIn : Bool → List Token → List Token → Type 0 where
   Tight : (xs : List Token) → GapIn false xs xs
   Loose : (xs ys : List Token) → Gap xs ys → GapIn true xs ys
@@ -170,10 +170,10 @@ pub data Owner : Bool → List Token → List Token → Type 0 where
 
 -- ---- guards
 
--- what stands between a body and a `rescue`: a separator, but behind an empty body
+-- what stands between a body and a `rescue`: a separator, but after an empty body
 pub data Parted : Tree → List Token → List Token → Type 0 where
-  BehindNothing : (xs : List Token) → Parted (body_of []) xs xs
-  BehindSeparator : (before : Tree) (t : Token) (xs : List Token) → Is shape.Separator t → Parted before (t ∷ xs) xs
+  AfterNothing : (xs : List Token) → Parted (body_of []) xs xs
+  AfterSeparator : (before : Tree) (t : Token) (xs : List Token) → Is shape.Separator t → Parted before (t ∷ xs) xs
 
 -- the variable of a `rescue`, if it has one
 pub data RescueVariable : Option PlacedName → List Token → List Token → Type 0 where
@@ -189,7 +189,7 @@ mutual
     Statements : (at : Site) (free : Bool) (s : Tree) (ss : List Tree) (xs ps qs rs ys : List Token) →
         Gap xs ps → DerivesStatement at free s ps qs → DerivesMore at free ss qs rs → Gap rs ys → DerivesBody at free (body_of (s ∷ ss)) xs ys
 
-  -- the statements behind the first, each behind at least one separator
+  -- the statements after the first, each after at least one separator
   pub data DerivesMore : Site → Bool → List Tree → List Token → List Token → Type 0 where
     NoMore : (at : Site) (free : Bool) (xs : List Token) → DerivesMore at free [] xs xs
     Another : (at : Site) (free : Bool) (t : Token) (s : Tree) (ss : List Tree) (xs ps qs ys : List Token) →
@@ -264,7 +264,7 @@ mutual
         DerivesLevel 0 free c xs (q ∷ ps) → Is shape.Question q → DerivesTerm free a ps (k ∷ qs) → Is shape.Colon k → DerivesTerm free b qs ys →
         DerivesTerm free (tree.Conditional c a b (across (span_of c) (span_of b))) xs ys
 
-  -- operators between operands, by the level of the loosest; behind the last level `-` in front and `**`
+  -- operators between operands, by the level of the loosest; after the last level `-` in front and `**`
   pub data DerivesLevel : ℕ → Bool → Tree → List Token → List Token → Type 0 where
     Tighter : (level : ℕ) (free : Bool) (t : Tree) (xs ys : List Token) → level < 9 → DerivesLevel (suc level) free t xs ys → DerivesLevel level free t xs ys
     FromLeft : (level : ℕ) (free : Bool) (o : Token) (operator : Binary) (a b : Tree) (xs ps ys : List Token) → level ≢ 2 →
@@ -291,16 +291,16 @@ mutual
     Suffixed : (free : Bool) (before last : Token) (p : Tree) (ss : List (Suffix Tree)) (s : Suffix Tree) (xs ps ys : List Token) →
         DerivesOperand free p ss before xs ps → DerivesSuffix free s before last ps ys → DerivesOperand free p (ss ++ s ∷ []) last xs ys
 
-  -- a suffix, behind this token and with this last one
+  -- a suffix, after this token and with this last one
   pub data DerivesSuffix : Bool → Suffix Tree → Token → Token → List Token → List Token → Type 0 where
     Calls : (free : Bool) (before d n middle last : Token) (how : Dot) (w : List ℕ) (arguments : Option (List (Argument Tree))) (block : Option (Block Tree)) (xs ps ys : List Token) →
-        IsRow DOTS (shape_of d.kind) how → IsIdentifier n w → DerivesBrackets arguments n middle xs ps → DerivesBlockBehind free block middle last ps ys →
+        IsRow DOTS (shape_of d.kind) how → IsIdentifier n w → DerivesBrackets arguments n middle xs ps → DerivesBlockAfter free block middle last ps ys →
         (block ≡ None ⊎ LeavesBlock arguments) →
         DerivesSuffix free (suffix.Call how w n.span arguments block (across d.span last.span)) before last (d ∷ n ∷ xs) ys
     Within : (free : Bool) (before c n : Token) (w : List ℕ) (xs : List Token) → Is shape.Scope c → IsConstant n w → DerivesSuffix free (suffix.Constant w n.span (across c.span n.span)) before n (c ∷ n ∷ xs) xs
     Indexed : (free : Bool) (before last : Token) (s : Suffix Tree) (xs ys : List Token) → DerivesIndex s before last xs ys → DerivesSuffix free s before last xs ys
 
-  -- an index: it touches its operand, but behind a closing bracket
+  -- an index: it touches its operand, but after a closing bracket
   pub data DerivesIndex : Suffix Tree → Token → Token → List Token → List Token → Type 0 where
     Index : (before o c : Token) (arguments : List (Argument Tree)) (xs ps qs ys : List Token) → Is shape.OpenBracket o →
         (Touches before o ⊎ IsAny (shape.CloseParen ∷ shape.CloseBracket ∷ shape.CloseBrace ∷ []) before) →
@@ -319,10 +319,10 @@ mutual
     Brackets : (before o c : Token) (arguments : List (Argument Tree)) (xs ps qs ys : List Token) → Is shape.OpenParen o →
         Gap xs ps → DerivesArguments true true arguments ps qs → AreOrdered arguments → Gap qs (c ∷ ys) → Is shape.CloseParen c → DerivesBrackets (Some arguments) before c (o ∷ xs) ys
 
-  -- the block behind a call, if one stands
-  pub data DerivesBlockBehind : Bool → Option (Block Tree) → Token → Token → List Token → List Token → Type 0 where
-    NoBlock : (free : Bool) (before : Token) (xs : List Token) → DerivesBlockBehind free None before before xs xs
-    SomeBlock : (free : Bool) (before last : Token) (b : Block Tree) (xs ys : List Token) → DerivesBlock free b last xs ys → DerivesBlockBehind free (Some b) before last xs ys
+  -- the block after a call, if one stands
+  pub data DerivesBlockAfter : Bool → Option (Block Tree) → Token → Token → List Token → List Token → Type 0 where
+    NoBlock : (free : Bool) (before : Token) (xs : List Token) → DerivesBlockAfter free None before before xs xs
+    SomeBlock : (free : Bool) (before last : Token) (b : Block Tree) (xs ys : List Token) → DerivesBlock free b last xs ys → DerivesBlockAfter free (Some b) before last xs ys
 
   pub data DerivesBlock : Bool → Block Tree → Token → List Token → List Token → Type 0 where
     Braces : (free : Bool) (o c : Token) (names : List PlacedName) (body : Tree) (xs ps ys : List Token) → Is shape.OpenBrace o → Bars names xs ps →
@@ -330,7 +330,7 @@ mutual
     DoEnd : (o c : Token) (names : List PlacedName) (body : Tree) (xs ps ys : List Token) → Is shape.Do o → Bars names xs ps →
         DerivesBody Inside true body ps (c ∷ ys) → Is shape.End c → DerivesBlock true (record { parameters = names; body = body; span = across o.span c.span }) c (o ∷ xs) ys
 
-  -- the `do` behind a command, if one stands
+  -- the `do` after a command, if one stands
   pub data DerivesDo : Bool → Option (Block Tree) → List Token → List Token → Type 0 where
     NoDo : (free : Bool) (xs : List Token) → DerivesDo free None xs xs
     SomeDo : (o last : Token) (b : Block Tree) (xs ys : List Token) → Is shape.Do o → DerivesBlock true b last (o ∷ xs) ys → DerivesDo true (Some b) (o ∷ xs) ys
@@ -355,7 +355,7 @@ mutual
     FalsePlace : (free : Bool) (t : Token) (xs : List Token) → Is shape.False t → DerivesPrimary free (tree.False t.span) t (t ∷ xs) xs
     NameAlone : (free : Bool) (t : Token) (w : List ℕ) (xs : List Token) → IsIdentifier t w → DerivesPrimary free (tree.Name w t.span) t (t ∷ xs) xs
     CallWithBrackets : (free : Bool) (t middle last : Token) (w : List ℕ) (arguments : List (Argument Tree)) (block : Option (Block Tree)) (xs ps ys : List Token) → IsIdentifier t w →
-        DerivesBrackets (Some arguments) t middle xs ps → DerivesBlockBehind free block middle last ps ys → (block ≡ None ⊎ HasNoBlock arguments) →
+        DerivesBrackets (Some arguments) t middle xs ps → DerivesBlockAfter free block middle last ps ys → (block ≡ None ⊎ HasNoBlock arguments) →
         DerivesPrimary free (tree.Call w t.span (Some arguments) block (across t.span last.span)) last (t ∷ xs) ys
     CallWithBlock : (free : Bool) (t last : Token) (w : List ℕ) (block : Block Tree) (xs ys : List Token) → IsIdentifier t w → DerivesBlock free block last xs ys →
         DerivesPrimary free (tree.Call w t.span None (Some block) (across t.span last.span)) last (t ∷ xs) ys
@@ -384,7 +384,7 @@ mutual
         Is shape.Case k → DerivesSubject free subject xs ps → Gap ps qs → DerivesWhens free (arm ∷ arms) qs rs → DerivesElse free otherwise rs (e ∷ ys) → Is shape.End e →
         DerivesPrimary free (tree.Case subject (arm ∷ arms) otherwise (across k.span e.span)) e (k ∷ xs) ys
 
-  -- the pieces of a string behind its first
+  -- the pieces of a string after its first
   pub data DerivesPieces : List (Piece Tree) → Token → Token → List Token → List Token → Type 0 where
     NoPiece : (before : Token) (xs : List Token) → DerivesPieces [] before before xs xs
     MorePieces : (before o c t last : Token) (body : Tree) (w : List ℕ) (more : List (Piece Tree)) (xs ps ys : List Token) → Is shape.Interpolation o → DerivesBody Inside true body xs (c ∷ t ∷ ps) → Is shape.CloseBrace c → IsText t w →
@@ -432,7 +432,7 @@ mutual
         DerivesBody Inside free body xs ps → DerivesRescues free body (clause ∷ clauses) ps qs → DerivesElse free otherwise qs rs → DerivesEnsure free ensure rs ys →
         DerivesGuarded free (record { body = body; rescues = clause ∷ clauses; otherwise = otherwise; ensure = ensure }) xs ys
 
-  -- the `rescue` clauses behind the body that is given
+  -- the `rescue` clauses after the body that is given
   pub data DerivesRescues : Bool → Tree → List (Rescue Tree) → List Token → List Token → Type 0 where
     NoRescue : (free : Bool) (before : Tree) (xs : List Token) → DerivesRescues free before [] xs xs
     MoreRescues : (free : Bool) (k : Token) (before : Tree) (patterns : List Tree) (variable : Option PlacedName) (body : Tree) (more : List (Rescue Tree)) (xs ps qs rs us vs ys : List Token) →
@@ -491,7 +491,7 @@ mutual
 abbrev pub Derives : List Token → Tree → Type 0
 Derives tokens t = DerivesBody Top true t tokens []
 
--- The tokens begin some program: with others behind them they are one.
+-- The tokens begin some program: with others after them they are one.
 abbrev pub Begins : List Token → Type 0
 Begins tokens = (more : List Token) × (t : Tree) × Derives (tokens ++ more) t
 
@@ -499,8 +499,8 @@ Begins tokens = (more : List Token) × (t : Tree) × Derives (tokens ++ more) t
 pub record BadAt (tokens : List Token) (at : ℕ) : Type 0 where
   pub before : List Token
   pub bad : Token
-  pub behind : List Token
-  pub whole : tokens ≡ before ++ bad ∷ behind
+  pub after : List Token
+  pub whole : tokens ≡ before ++ bad ∷ after
   pub place : at ≡ bad.span.start
   pub begins : Begins before
   pub none : ¬ Begins (before ++ bad ∷ [])

@@ -31,7 +31,7 @@ pub record Gives (text : List ℕ) (level : Level) : Type 0 where
 
 -- ---- the level of a text
 
--- the characters of a comment behind its `#`, before its line's end or the text's: a `\r` directly before `\n` is not of the comment
+-- the characters of a comment after its `#`, before its line's end or the text's: a `\r` directly before `\n` is not of the comment
 pub record IsLine (w rest : List ℕ) : Type 0 where
   pub plain : ¬ Holds 10 w
   pub ended : EndsLine rest

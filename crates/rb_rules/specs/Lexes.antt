@@ -14,11 +14,11 @@ use Rattle.rb_tree.specs.Tokens.{shape_of, plain_kind}
 use Rattle.rb_rules.specs.Letters.{begins_name, is_letter, is_decimal}
 use Rattle.rb_rules.specs.Spellings.{Begins, Holds, IsNamed, IsIdentifier, IsConstant, IsSymbolName, IsWhole, IsFloat, KEYWORDS, FOREIGN_WORDS, OPERATORS, METHOD_OPERATORS, FOREIGN_OPERATORS}
 use Rattle.rb_rules.specs.Numerals.{value_of}
-use Rattle.rb_rules.specs.Before.{IsOperandEnd, NamesMethod, IsBehindDot, IsBehindName, IsBehindConstant, Keeps, frames}
+use Rattle.rb_rules.specs.Before.{IsOperandEnd, NamesMethod, IsAfterDot, IsAfterName, IsAfterConstant, Keeps, frames}
 
 -- ---- blanks, comments and line ends
 
--- one blank before the rest: a space, a tab, a `\r` before `\n`, or a backslash with the line's end behind it
+-- one blank before the rest: a space, a tab, a `\r` before `\n`, or a backslash with the line's end after it
 pub data IsBlank : List ℕ → List ℕ → Type 0 where
   Space : (rest : List ℕ) → IsBlank (32 ∷ []) rest
   Tab : (rest : List ℕ) → IsBlank (9 ∷ []) rest
@@ -51,11 +51,11 @@ pub data Continues : List ℕ → Type 0 where
 abbrev pub IsWord : List ℕ → Type 0
 IsWord w = ((s : Shape) × Holds (s, w) KEYWORDS) ⊎ Holds w FOREIGN_WORDS
 
--- the characters spell the shape with these words, behind the shapes and before the rest
+-- the characters spell the shape with these words, after the shapes and before the rest
 pub data Spells (past : List Shape) : Shape → List ℕ → List ℕ → List ℕ → Type 0 where
-  Identifier : (w rest : List ℕ) → IsIdentifier w rest → (IsBehindDot past ⊎ ¬ IsWord w) → Spells past shape.Identifier w w rest
-  Constant : (w rest : List ℕ) → IsConstant w → (IsBehindDot past ⊎ ¬ IsWord w) → Spells past shape.Constant w w rest
-  Keyword : (s : Shape) (w rest : List ℕ) → IsIdentifier w rest → Holds (s, w) KEYWORDS → ¬ IsBehindDot past → Spells past s w [] rest
+  Identifier : (w rest : List ℕ) → IsIdentifier w rest → (IsAfterDot past ⊎ ¬ IsWord w) → Spells past shape.Identifier w w rest
+  Constant : (w rest : List ℕ) → IsConstant w → (IsAfterDot past ⊎ ¬ IsWord w) → Spells past shape.Constant w w rest
+  Keyword : (s : Shape) (w rest : List ℕ) → IsIdentifier w rest → Holds (s, w) KEYWORDS → ¬ IsAfterDot past → Spells past s w [] rest
   InstanceVariable : (w rest : List ℕ) → IsNamed begins_name w → Spells past shape.InstanceVariable (64 ∷ w) w rest
   Label : (w rest : List ℕ) → (IsIdentifier w (58 ∷ rest) ⊎ IsConstant w) → ¬ Begins 58 rest → Spells past shape.Label (w ++ 58 ∷ []) w rest
   Symbol : (w rest : List ℕ) → IsSymbolName w rest → Spells past shape.Symbol (58 ∷ w) w rest
@@ -85,7 +85,7 @@ pub data EndsLine : List ℕ → Type 0 where
 
 -- ---- broken rules
 
--- A form that is outside the profile begins here, behind these tokens, with a blank before it or none, at a line's start or not.
+-- A form that is outside the profile begins here, after these tokens, with a blank before it or none, at a line's start or not.
 pub data IsForeign (past : List Shape) (blank start : Bool) : List ℕ → Type 0 where
   LongComment : (rest : List ℕ) → start ≡ true → IsForeign past blank start (codes "=begin" ++ rest)
   EndMark : (rest : List ℕ) → start ≡ true → EndsLine rest → IsForeign past blank start (codes "__END__" ++ rest)
@@ -99,16 +99,16 @@ pub data IsForeign (past : List Shape) (blank start : Bool) : List ℕ → Type 
   QuestionAtOperand : (rest : List ℕ) → ¬ IsOperandEnd past → IsForeign past blank start (63 ∷ rest)
   QuestionTouched : (rest : List ℕ) → ¬ IsSpaced rest → IsForeign past blank start (63 ∷ rest)
   ColonTouched : (c : ℕ) (rest : List ℕ) → is_letter c ≡ false → c ≢ 95 → c ≢ 58 → ¬ IsSpaced (c ∷ rest) → IsForeign past blank start (58 ∷ c ∷ rest)
-  ParenBehindConstant : (rest : List ℕ) → IsBehindConstant past → blank ≡ false → IsForeign past blank start (40 ∷ rest)
+  ParenAfterConstant : (rest : List ℕ) → IsAfterConstant past → blank ≡ false → IsForeign past blank start (40 ∷ rest)
   ZeroAndDigit : (d : ℕ) (rest : List ℕ) → is_decimal d ≡ true → IsForeign past blank start (48 ∷ d ∷ rest)
   NumberAndLetter : (s : Shape) (w rest : List ℕ) (c : ℕ) → Holds s (shape.Whole ∷ shape.Float ∷ []) → IsLongest past s w w (c ∷ rest) → is_letter c ≡ true → IsForeign past blank start (w ++ c ∷ rest)
   LargeNumber : (w rest : List ℕ) → IsLongest past shape.Whole w w rest → 2 ^ 128 ≤ value_of w → IsForeign past blank start (w ++ rest)
-  ForeignWord : (w rest : List ℕ) → IsWholeName w rest → Holds w FOREIGN_WORDS → ¬ IsBehindDot past → IsForeign past blank start (w ++ rest)
+  ForeignWord : (w rest : List ℕ) → IsWholeName w rest → Holds w FOREIGN_WORDS → ¬ IsAfterDot past → IsForeign past blank start (w ++ rest)
 
--- Here is no Ruby of any kind: an operator that is ambiguous behind a name and a blank, or a character that begins nothing.
+-- Here is no Ruby of any kind: an operator that is ambiguous after a name and a blank, or a character that begins nothing.
 pub data IsWrong (past : List Shape) (blank : Bool) : List ℕ → Type 0 where
-  Ambiguous : (s : Shape) (w rest : List ℕ) → IsLongest past s w [] rest → Holds s (shape.Minus ∷ shape.Plus ∷ shape.Star ∷ shape.Power ∷ shape.Ampersand ∷ shape.Slash ∷ shape.Percent ∷ shape.OpenBracket ∷ shape.Scope ∷ shape.ShiftLeft ∷ []) → IsBehindName past → blank ≡ true → ¬ IsSpaced rest → IsWrong past blank (w ++ rest)
-  ParenBehindBlank : (rest : List ℕ) → IsBehindName past → blank ≡ true → IsWrong past blank (40 ∷ rest)
+  Ambiguous : (s : Shape) (w rest : List ℕ) → IsLongest past s w [] rest → Holds s (shape.Minus ∷ shape.Plus ∷ shape.Star ∷ shape.Power ∷ shape.Ampersand ∷ shape.Slash ∷ shape.Percent ∷ shape.OpenBracket ∷ shape.Scope ∷ shape.ShiftLeft ∷ []) → IsAfterName past → blank ≡ true → ¬ IsSpaced rest → IsWrong past blank (w ++ rest)
+  ParenAfterBlank : (rest : List ℕ) → IsAfterName past → blank ≡ true → IsWrong past blank (40 ∷ rest)
   NoToken : (c : ℕ) (z : List ℕ) → ((s : Shape) (w words rest : List ℕ) → w ++ rest ≡ c ∷ z → ¬ Spells past s w words rest) → ((w rest : List ℕ) → w ++ rest ≡ c ∷ z → ¬ IsBlank w rest) → ¬ Holds c (10 ∷ 35 ∷ 34 ∷ 39 ∷ []) → IsWrong past blank (c ∷ z)
 
 -- ---- tokens
@@ -157,11 +157,11 @@ past_of p = reverse (map (λ (t : Token). shape_of t.kind) p.tokens)
 abbrev pub FIRST : Place
 FIRST = record { at = 0; tokens = []; blank = false; start = true; string = None; outer = [] }
 
--- behind characters that are blank
+-- after characters that are blank
 abbrev pub passed : List ℕ → Bool → Place → Place
 passed w start p = record p { at = p.at + byte_len w; blank = true; start = start }
 
--- behind a token with these words and the spelling `w`
+-- after a token with these words and the spelling `w`
 abbrev pub spelt : Shape → List ℕ → List ℕ → Place → Place
 spelt s w words p =
     record p {
@@ -171,7 +171,7 @@ spelt s w words p =
       start = false;
     }
 
--- behind a piece of a string, with the characters `w` and what ends it, which is `len` bytes long and is `own` bytes of the piece
+-- after a piece of a string, with the characters `w` and what ends it, which is `len` bytes long and is `own` bytes of the piece
 abbrev pub pieced : OpenString → List ℕ → ℕ → ℕ → Place → Place
 pieced o w own len p =
     record p {
@@ -189,7 +189,7 @@ pub data IsContent (quote : ℕ) : List ℕ → List ℕ → Type 0 where
   Taken : (c : ℕ) (w rest : List ℕ) → IsContent quote w rest → IsContent quote (92 ∷ c ∷ w) rest
   Single : (c : ℕ) (w rest : List ℕ) → c ≢ quote → c ≢ 92 → (quote ≡ 34 → c ≡ 35 → ¬ (Begins 123 (w ++ rest) ⊎ Begins 64 (w ++ rest) ⊎ Begins 36 (w ++ rest))) → IsContent quote w rest → IsContent quote (c ∷ w) rest
 
--- the content of a string that the text's end cuts behind a backslash
+-- the content of a string that the text's end cuts after a backslash
 abbrev pub IsCutContent : ℕ → List ℕ → Type 0
 IsCutContent quote w = (v : List ℕ) × (w ≡ v ++ 92 ∷ []) × IsContent quote v (92 ∷ [])
 
@@ -201,11 +201,11 @@ IsTouched rest = Begins 58 rest × ¬ Begins 58 (drop 1 rest)
 abbrev pub IsReturn : Shape → List Shape → Type 0
 IsReturn s past = (s ≡ shape.CloseBrace) × (take 1 (frames past) ≡ true ∷ [])
 
--- whether the blank holds a line's end, so that a line starts behind it
+-- whether the blank holds a line's end, so that a line starts after it
 abbrev pub begins_line : List ℕ → Bool
 begins_line w = list_any (λ c. c == 10) w
 
--- behind a piece and the `#{` that ends it
+-- after a piece and the `#{` that ends it
 abbrev pub interpolated : OpenString → List ℕ → Place → Place
 interpolated o w p =
     let q = pieced o w 0 2 p in

@@ -13,7 +13,7 @@ use Rattle.rb_tree.specs.declared.syntax.Block.{Block}
 abbrev pub across : Span → Span → Span
 across a b = record { start = a.start; end = b.end }
 
--- the last element of a list behind this one
+-- the last element of a list after this one
 abbrev pub last_of : {A : Type 0} → A → List A → A
 last_of x [] = x
 last_of x (y ∷ ys) = last_of y ys
@@ -30,7 +30,7 @@ argument_span (argument.Positional value) = span_of value
 argument_span (argument.Keyword name span value) = across span (span_of value)
 argument_span (argument.Block span value) = across span (span_of value)
 
--- a place, or that of a block behind it
+-- a place, or that of a block after it
 abbrev pub block_or : Span → Option (Block Tree) → Span
 block_or span None = span
 block_or span (Some block) = block.span

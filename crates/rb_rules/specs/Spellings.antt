@@ -23,7 +23,7 @@ abbrev pub IsNamed : (ℕ → Bool) → List ℕ → Type 0
 IsNamed first [] = ⊥
 IsNamed first (c ∷ w) = (first c ≡ true) × (list_all continues_name w ≡ true)
 
--- an identifier before the rest: `[a-z_][A-Za-z0-9_]*`, with one `?` or `!` directly behind if the next character is not `=`
+-- an identifier before the rest: `[a-z_][A-Za-z0-9_]*`, with one `?` or `!` directly after if the next character is not `=`
 pub data IsIdentifier : List ℕ → List ℕ → Type 0 where
   Plain : (w rest : List ℕ) → IsNamed begins_name w → IsIdentifier w rest
   Asking : (w rest : List ℕ) → IsNamed begins_name w → ¬ Begins 61 rest → IsIdentifier (w ++ 63 ∷ []) rest

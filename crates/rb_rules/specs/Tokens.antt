@@ -24,7 +24,7 @@ abbrev pub StartsWith : List Shape → List Token → Type 0
 StartsWith shapes [] = ⊥
 StartsWith shapes (t ∷ ts) = IsAny shapes t
 
--- the second token stands directly behind the first
+-- the second token stands directly after the first
 abbrev pub Touches : Token → Token → Type 0
 Touches a b = b.span.start ≡ a.span.end
 
@@ -53,7 +53,7 @@ IsFloat t w = t.kind ≡ kind.Float w
 abbrev pub IsText : Token → List ℕ → Type 0
 IsText t w = t.kind ≡ kind.Text w
 
--- a sign that touches the number behind it stands next
+-- a sign that touches the number after it stands next
 abbrev pub NUMBERS : List Shape
 NUMBERS = shape.Whole ∷ shape.Float ∷ []
 
@@ -61,7 +61,7 @@ abbrev pub IsBeforeNumber : Token → List Token → Type 0
 IsBeforeNumber t [] = ⊥
 IsBeforeNumber t (n ∷ ts) = IsAny NUMBERS n × Touches t n
 
--- such a number stands next, and `**` behind it
+-- such a number stands next, and `**` after it
 abbrev pub IsRaised : List Token → Type 0
 IsRaised [] = ⊥
 IsRaised (n ∷ ts) = StartsWith (shape.Power ∷ []) ts

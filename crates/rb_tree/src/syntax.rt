@@ -27,7 +27,7 @@ pub enum Node {
         statements: Items<Tree>,
         span: Span,
     },
-    /// A statement with a modifier behind it, as `a if b`. Several modifiers nest to the left.
+    /// A statement with a modifier after it, as `a if b`. Several modifiers nest to the left.
     Modified {
         statement: Tree,
         modifier: Modifier,
@@ -109,7 +109,7 @@ pub enum Node {
         pieces: Items<Piece<Tree>>,
         span: Span,
     },
-    /// A symbol. The words are what stands behind the `:`.
+    /// A symbol. The words are what stands after the `:`.
     Symbol {
         words: Words,
         span: Span,
@@ -193,7 +193,7 @@ pub enum Node {
         body: Tree,
         /// The `elsif` arms.
         arms: Items<Arm<Tree>>,
-        /// What stands behind `else`.
+        /// What stands after `else`.
         otherwise: Option<Tree>,
         span: Span,
     },
@@ -208,7 +208,7 @@ pub enum Node {
     Case {
         subject: Option<Tree>,
         arms: Items<When<Tree>>,
-        /// What stands behind `else`.
+        /// What stands after `else`.
         otherwise: Option<Tree>,
         span: Span,
     },
@@ -369,7 +369,7 @@ pub enum Visibility {
     PrivateClassMethod,
 }
 
-/// What stands behind an operand. `T` is the trees in it.
+/// What stands after an operand. `T` is the trees in it.
 #[derive(Debug, Drop)]
 pub enum Suffix<T> {
     /// A call, as `.name`, `&.name(a)` or `.name { b }`. The span begins at the dot.
@@ -465,25 +465,25 @@ pub struct Reference {
     pub span: Span,
 }
 
-/// A body with what is done where it raises an error, and behind it: the body of a method, or what stands between `begin` and
+/// A body with what is done where it raises an error, and after it: the body of a method, or what stands between `begin` and
 /// `end`. `T` is the trees in it.
 #[derive(Debug, Drop)]
 pub struct Guarded<T> {
     pub body: T,
     /// The `rescue` clauses.
     pub rescues: Items<Rescue<T>>,
-    /// What stands behind `else`. There is none where no `rescue` stands.
+    /// What stands after `else`. There is none where no `rescue` stands.
     pub otherwise: Option<T>,
-    /// What stands behind `ensure`.
+    /// What stands after `ensure`.
     pub ensure: Option<T>,
 }
 
 /// A `rescue` clause.
 #[derive(Debug, Drop)]
 pub struct Rescue<T> {
-    /// The expressions behind `rescue`, perhaps none.
+    /// The expressions after `rescue`, perhaps none.
     pub patterns: Items<T>,
-    /// The variable behind `=>`.
+    /// The variable after `=>`.
     pub variable: Option<PlacedName>,
     pub body: T,
 }
@@ -495,7 +495,7 @@ pub struct Parameter<T> {
     pub name: Name,
     /// The place of the name, a keyword's with its `:`.
     pub span: Span,
-    /// What stands behind `=`, or behind the `:` of a keyword. It is there exactly where the kind is optional.
+    /// What stands after `=`, or after the `:` of a keyword. It is there exactly where the kind is optional.
     pub default: Option<T>,
 }
 

@@ -26,13 +26,13 @@ pub enum TokenKind {
     InstanceVariable { words: Words },
     /// A name or keyword and `:`. The words are the name.
     Label { words: Words },
-    /// `:` and a name, perhaps with `=` at its end. The words are what stands behind the `:`.
+    /// `:` and a name, perhaps with `=` at its end. The words are what stands after the `:`.
     Symbol { words: Words },
     /// A whole number, as it is written.
     Whole { words: Words },
     /// A number with a fraction, as it is written.
     Float { words: Words },
-    /// A piece of a string: all of it, or what stands before, between or behind its interpolations. The span has the
+    /// A piece of a string: all of it, or what stands before, between or after its interpolations. The span has the
     /// quotes that stand at the string's ends. The words are what stands between, as it is written.
     Text { words: Words },
     /// The end of a line, or `;`.

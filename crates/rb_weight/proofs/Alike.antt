@@ -7,9 +7,9 @@ use Rattle.rb_tree.specs.Tokens.{shape_of}
 use Rattle.rb_tree.specs.declared.token.Token.{Token}
 use Rattle.rb_tree.specs.declared.token.Shape.{Shape}
 use Rattle.rb_weight.specs.Sorts.{sort_of}
-use Rattle.rb_weight.specs.Effects.{effect_of, behind, separated}
+use Rattle.rb_weight.specs.Effects.{effect_of, after, separated}
 use Rattle.rb_weight.specs.Scans.{done, step, deep_from, first_too_deep, start, closed, back}
-use Rattle.rb_weight.specs.Weights.{Open, Nest, within, next, nest_behind, operators, weight_of, begun, IsFirstDeep}
+use Rattle.rb_weight.specs.Weights.{Open, Nest, within, next, nest_after, operators, weight_of, begun, IsFirstDeep}
 use Rattle.rb_weight.specs.declared.effect.Before.{Before}
 use Rattle.rb_weight.specs.declared.effect.Before.TheVariants as before
 use Rattle.rb_weight.specs.declared.effect.Level.{Level}
@@ -79,37 +79,37 @@ done-alike a b effect.Divides o os =
 done-alike a b effect.Counts o os =
     same-numbers o.level b (outers a os) (weight_of a (o ∷ os) + 1) (weight_of a (record { level = o.level; standing = o.standing + 1 } ∷ os)) (base_of a os) (base_of a os) (omega arith) refl
 
-step-alike : (a : ℕ) (c : Shape) (b : Before) (o : Open) (os : List Open) → step c (scan_of a b o os) ≡ scanned a (behind b o.level (sort_of c)) (within (effect_of b o.level (sort_of c)) o os)
-step-alike a c b o os = done-alike a (behind b o.level (sort_of c)) (effect_of b o.level (sort_of c)) o os
+step-alike : (a : ℕ) (c : Shape) (b : Before) (o : Open) (os : List Open) → step c (scan_of a b o os) ≡ scanned a (after b o.level (sort_of c)) (within (effect_of b o.level (sort_of c)) o os)
+step-alike a c b o os = done-alike a (after b o.level (sort_of c)) (effect_of b o.level (sort_of c)) o os
 
--- ---- the first token behind which the weight is too great
+-- ---- the first token after which the weight is too great
 
 -- the same from what is known at the start, at this place
 record Deep (a : ℕ) (n : Nest) (ts : List Token) (at : ℕ) : Type 0 where
   within : at < length ts
-  deep : MOST < weight_of a (nest_behind n (take (at + 1) ts)).levels
-  first : (k : ℕ) → k ≤ at → weight_of a (nest_behind n (take k ts)).levels ≤ MOST
+  deep : MOST < weight_of a (nest_after n (take (at + 1) ts)).levels
+  first : (k : ℕ) → k ≤ at → weight_of a (nest_after n (take k ts)).levels ≤ MOST
 
--- behind the level at the start nothing weighs
+-- after the level at the start nothing weighs
 abbrev ended : Before → Nest
 ended b = record { levels = []; before = b }
 
-ended-light : (a : ℕ) (b : Before) (ts : List Token) → weight_of a (nest_behind (ended b) ts).levels ≡ 0
+ended-light : (a : ℕ) (b : Before) (ts : List Token) → weight_of a (nest_after (ended b) ts).levels ≡ 0
 ended-light a b [] = refl
-ended-light a b (t ∷ ts) = ended-light a (behind b level.Plain (sort_of (shape_of t.kind))) ts
+ended-light a b (t ∷ ts) = ended-light a (after b level.Plain (sort_of (shape_of t.kind))) ts
 
 -- one token later
 later : (a : ℕ) (n : Nest) (t : Token) (ts : List Token) (at : ℕ) → weight_of a n.levels ≤ MOST → Deep a (next (shape_of t.kind) n) ts at → Deep a n (t ∷ ts) (suc at)
 later a n t ts at light d =
     record {
       within = let h = d.within in omega arith;
-      deep = let P : ℕ → Type 0 = λ m. MOST < weight_of a (nest_behind n (take m (t ∷ ts))).levels in
+      deep = let P : ℕ → Type 0 = λ m. MOST < weight_of a (nest_after n (take m (t ∷ ts))).levels in
           let e : suc (at + 1) ≡ suc at + 1 = omega arith in
           subst P e d.deep;
       first = up_to;
     }
   where
-    up_to : (k : ℕ) → k ≤ suc at → weight_of a (nest_behind n (take k (t ∷ ts))).levels ≤ MOST
+    up_to : (k : ℕ) → k ≤ suc at → weight_of a (nest_after n (take k (t ∷ ts))).levels ≤ MOST
     up_to zero h = light
     up_to (suc k) h = d.first k (omega arith)
 
@@ -118,7 +118,7 @@ earlier : (a : ℕ) (n : Nest) (t : Token) (ts : List Token) (at : ℕ) → Deep
 earlier a n t ts at d =
     record {
       within = let h = d.within in omega arith;
-      deep = let P : ℕ → Type 0 = λ m. MOST < weight_of a (nest_behind n (take m (t ∷ ts))).levels in
+      deep = let P : ℕ → Type 0 = λ m. MOST < weight_of a (nest_after n (take m (t ∷ ts))).levels in
           let e : suc at + 1 ≡ suc (at + 1) = omega arith in
           subst P e d.deep;
       first = λ k h. d.first (suc k) (omega arith);
@@ -133,15 +133,15 @@ abbrev resumed : ℕ → List Token → Option Scan → Option ℕ
 resumed at ts r = elim r [ None ↦ None | Some more ↦ (if nat_lt MOST more.weight then Some at else deep_from (at + 1) more ts) ]
 
 -- the level at the start has closed
-none-behind : (a : ℕ) (n : Nest) (t : Token) (ts : List Token) (b : Before) → next (shape_of t.kind) n ≡ ended b → (k : ℕ) → ¬ Deep a n (t ∷ ts) k
-none-behind a n t ts b e zero d =
+none-after : (a : ℕ) (n : Nest) (t : Token) (ts : List Token) (b : Before) → next (shape_of t.kind) n ≡ ended b → (k : ℕ) → ¬ Deep a n (t ∷ ts) k
+none-after a n t ts b e zero d =
     let h : MOST < weight_of a (next (shape_of t.kind) n).levels = d.deep in
     let light : weight_of a (next (shape_of t.kind) n).levels ≡ 0 = ap (λ (m : Nest). weight_of a m.levels) e in
     absurd (omega arith)
-none-behind a n t ts b e (suc k) d =
+none-after a n t ts b e (suc k) d =
     let h = (earlier a n t ts k d).deep in
-    let light : weight_of a (nest_behind (next (shape_of t.kind) n) (take (k + 1) ts)).levels ≡ 0 =
-    ap (λ (m : Nest). weight_of a (nest_behind m (take (k + 1) ts)).levels) e ∙ ended-light a b (take (k + 1) ts) in
+    let light : weight_of a (nest_after (next (shape_of t.kind) n) (take (k + 1) ts)).levels ≡ 0 =
+    ap (λ (m : Nest). weight_of a (nest_after m (take (k + 1) ts)).levels) e ∙ ended-light a b (take (k + 1) ts) in
     absurd (omega arith)
 
 -- it is the first token
@@ -152,7 +152,7 @@ found-here a at n t ts light deep = (
   record {
     within = omega arith;
     deep = deep;
-    first = λ k h. (let P : ℕ → Type 0 = λ m. weight_of a (nest_behind n (take m (t ∷ ts))).levels ≤ MOST in let e : 0 ≡ k = omega arith in subst P e light);
+    first = λ k h. (let P : ℕ → Type 0 = λ m. weight_of a (nest_after n (take m (t ∷ ts))).levels ≤ MOST in let e : 0 ≡ k = omega arith in subst P e light);
   },
 )
 
@@ -165,7 +165,7 @@ found-later a at n t ts None light more none = none_from
     none_from zero d = let h : MOST < weight_of a (next (shape_of t.kind) n).levels = d.deep in absurd (omega arith)
     none_from (suc k) d = none k (earlier a n t ts k d)
 
--- what the search answers behind one token, where it answers so from every state behind that
+-- what the search answers after one token, where it answers so from every state after that
 found-tested : (a at : ℕ) (n : Nest) (t : Token) (ts : List Token) (b : Before) (o : Open) (os : List Open) → next (shape_of t.kind) n ≡ record { levels = o ∷ os; before = b } → weight_of a n.levels ≤ MOST → (weight_of a (o ∷ os) ≤ MOST → Finds a (record { levels = o ∷ os; before = b }) ts (at + 1) (deep_from (at + 1) (scan_of a b o os) ts)) → (test : Bool) → nat_lt MOST (weight_of a (o ∷ os)) ≡ test → Finds a n (t ∷ ts) at (if test then Some at else deep_from (at + 1) (scan_of a b o os) ts)
 found-tested a at n t ts b o os e light more true is =
     let w : weight_of a (next (shape_of t.kind) n).levels ≡ weight_of a (o ∷ os) = ap (λ (m : Nest). weight_of a m.levels) e in
@@ -177,19 +177,19 @@ found-tested a at n t ts b o os e light more false is =
     let R : Nest → Type 0 = λ m. Finds a m ts (at + 1) (deep_from (at + 1) (scan_of a b o os) ts) in
     found-later a at n t ts (deep_from (at + 1) (scan_of a b o os) ts) light (omega arith) (subst R (sym e) (more h))
 
-found-behind : (a at : ℕ) (n : Nest) (t : Token) (ts : List Token) (b : Before) (ls : List Open) → next (shape_of t.kind) n ≡ record { levels = ls; before = b } → weight_of a n.levels ≤ MOST → ((o : Open) (os : List Open) → weight_of a (o ∷ os) ≤ MOST → Finds a (record { levels = o ∷ os; before = b }) ts (at + 1) (deep_from (at + 1) (scan_of a b o os) ts)) → Finds a n (t ∷ ts) at (resumed at ts (scanned a b ls))
-found-behind a at n t ts b [] e light more = none-behind a n t ts b e
-found-behind a at n t ts b (o ∷ os) e light more = found-tested a at n t ts b o os e light (more o os) (nat_lt MOST (weight_of a (o ∷ os))) refl
+found-after : (a at : ℕ) (n : Nest) (t : Token) (ts : List Token) (b : Before) (ls : List Open) → next (shape_of t.kind) n ≡ record { levels = ls; before = b } → weight_of a n.levels ≤ MOST → ((o : Open) (os : List Open) → weight_of a (o ∷ os) ≤ MOST → Finds a (record { levels = o ∷ os; before = b }) ts (at + 1) (deep_from (at + 1) (scan_of a b o os) ts)) → Finds a n (t ∷ ts) at (resumed at ts (scanned a b ls))
+found-after a at n t ts b [] e light more = none-after a n t ts b e
+found-after a at n t ts b (o ∷ os) e light more = found-tested a at n t ts b o os e light (more o os) (nat_lt MOST (weight_of a (o ∷ os))) refl
 
 found : (a at : ℕ) (b : Before) (o : Open) (os : List Open) (ts : List Token) → weight_of a (o ∷ os) ≤ MOST → Finds a (record { levels = o ∷ os; before = b }) ts at (deep_from at (scan_of a b o os) ts)
 found a at b o os [] light = λ k d. (let h = d.within in absurd (omega arith))
 found a at b o os (t ∷ ts) light =
     let c = shape_of t.kind in
     let n : Nest = record { levels = o ∷ os; before = b } in
-    let behind_it = behind b o.level (sort_of c) in
+    let after_it = after b o.level (sort_of c) in
     let Q : Option Scan → Type 0 = λ r. Finds a n (t ∷ ts) at (resumed at ts r) in
-    let goes = λ (p : Open) (ps : List Open) (h : weight_of a (p ∷ ps) ≤ MOST). found a (at + 1) behind_it p ps ts h in
-    subst Q (sym (step-alike a c b o os)) (found-behind a at n t ts behind_it (within (effect_of b o.level (sort_of c)) o os) refl light goes)
+    let goes = λ (p : Open) (ps : List Open) (h : weight_of a (p ∷ ps) ≤ MOST). found a (at + 1) after_it p ps ts h in
+    subst Q (sym (step-alike a c b o os)) (found-after a at n t ts after_it (within (effect_of b o.level (sort_of c)) o os) refl light goes)
 
 -- ---- the start
 

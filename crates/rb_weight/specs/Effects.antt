@@ -69,60 +69,60 @@ effect_of b l sort.Dot = effect.Counts
 effect_of b l sort.Assign = effect.Counts
 effect_of b l sort.Pipe = pipe b
 
--- What a token says about the next one, outside of a method's head and of block parameters. An `if` is a modifier behind an
--- operand's end and behind `return`, `break` and `next`, but not behind the `)` that closes the parameters of a method.
-unfoldable pub behind_plain : Before → Level → Sort → Before
-behind_plain b l sort.Operand = before.Operand
-behind_plain b l sort.SelfWord = before.Operand
-behind_plain b l sort.Close = (if is_parameters l then before.Plain else before.Operand)
-behind_plain b l sort.Brace = before.Block
-behind_plain b l sort.Do = before.Block
-behind_plain b l sort.Def = before.Def
-behind_plain b l sort.Pipe = (if is_block b then before.Bars else before.Plain)
-behind_plain b l sort.Open = before.Plain
-behind_plain b l sort.Paren = before.Plain
-behind_plain b l sort.Choice = before.Plain
-behind_plain b l sort.Loop = before.Plain
-behind_plain b l sort.Separator = before.Plain
-behind_plain b l sort.Divider = before.Plain
-behind_plain b l sort.Operator = before.Plain
-behind_plain b l sort.Dot = before.Plain
-behind_plain b l sort.Assign = before.Plain
-behind_plain b l sort.Other = before.Plain
+-- What a token says about the next one, outside of a method's head and of block parameters. An `if` is a modifier after an
+-- operand's end and after `return`, `break` and `next`, but not after the `)` that closes the parameters of a method.
+unfoldable pub after_plain : Before → Level → Sort → Before
+after_plain b l sort.Operand = before.Operand
+after_plain b l sort.SelfWord = before.Operand
+after_plain b l sort.Close = (if is_parameters l then before.Plain else before.Operand)
+after_plain b l sort.Brace = before.Block
+after_plain b l sort.Do = before.Block
+after_plain b l sort.Def = before.Def
+after_plain b l sort.Pipe = (if is_block b then before.Bars else before.Plain)
+after_plain b l sort.Open = before.Plain
+after_plain b l sort.Paren = before.Plain
+after_plain b l sort.Choice = before.Plain
+after_plain b l sort.Loop = before.Plain
+after_plain b l sort.Separator = before.Plain
+after_plain b l sort.Divider = before.Plain
+after_plain b l sort.Operator = before.Plain
+after_plain b l sort.Dot = before.Plain
+after_plain b l sort.Assign = before.Plain
+after_plain b l sort.Other = before.Plain
 
--- behind `def`: `self`, or a method's name
-abbrev pub behind_def : Sort → Before
-behind_def sort.SelfWord = before.DefSelf
-behind_def _ = before.Name
+-- after `def`: `self`, or a method's name
+abbrev pub after_def : Sort → Before
+after_def sort.SelfWord = before.DefSelf
+after_def _ = before.Name
 
--- behind the `self` of `def self`
-abbrev pub behind_self : Sort → Before
-behind_self sort.Dot = before.DefDot
-behind_self _ = before.Plain
+-- after the `self` of `def self`
+abbrev pub after_self : Sort → Before
+after_self sort.Dot = before.DefDot
+after_self _ = before.Plain
 
 -- in block parameters, which the next `|` closes
-abbrev pub behind_bar : Sort → Before
-behind_bar sort.Pipe = before.Plain
-behind_bar _ = before.Bars
+abbrev pub after_bar : Sort → Before
+after_bar sort.Pipe = before.Plain
+after_bar _ = before.Bars
 
 abbrev pub is_assign : Sort → Bool
 is_assign sort.Assign = true
 is_assign _ = false
 
--- behind a method's name, of which a `=` is a part
-abbrev pub behind_name : Level → Sort → Before
-behind_name l s = if is_assign s then before.Name else behind_plain before.Name l s
+-- after a method's name, of which a `=` is a part
+abbrev pub after_name : Level → Sort → Before
+after_name l s = if is_assign s then before.Name else after_plain before.Name l s
 
 -- what a token says about the next one
-unfoldable pub behind : Before → Level → Sort → Before
-behind before.Def l s = behind_def s
-behind before.DefSelf l s = behind_self s
-behind before.DefDot l s = before.Name
-behind before.Name l s = behind_name l s
-behind before.Bars l s = behind_bar s
-behind before.Plain l s = behind_plain before.Plain l s
-behind before.Operand l s = behind_plain before.Operand l s
-behind before.Block l s = behind_plain before.Block l s
+unfoldable pub after : Before → Level → Sort → Before
+after before.Def l s = after_def s
+after before.DefSelf l s = after_self s
+after before.DefDot l s = before.Name
+after before.Name l s = after_name l s
+after before.Bars l s = after_bar s
+after before.Plain l s = after_plain before.Plain l s
+after before.Operand l s = after_plain before.Operand l s
+after before.Block l s = after_plain before.Block l s
 
 -- a separator ends the condition of a `while` or `until`
 abbrev pub separated : Level → Level

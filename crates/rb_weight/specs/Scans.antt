@@ -1,10 +1,10 @@
--- The weight behind the tokens of a pass from the front. What an open level brings back when it closes is kept where it opens.
+-- The weight after the tokens of a pass from the front. What an open level brings back when it closes is kept where it opens.
 use Rattle.std.specs.Prelude.{◌≡◌, ℕ, ◌+◌, ◌-◌, Bool, true, false, if◌then◌else◌, List, [], ◌∷◌, ◌++◌, length, take, drop, slice_get, Option, Some, None, nat_lt}
 use Rattle.rb_tree.specs.Tokens.{shape_of}
 use Rattle.rb_tree.specs.declared.token.Token.{Token}
 use Rattle.rb_tree.specs.declared.token.Shape.{Shape}
 use Rattle.rb_weight.specs.Sorts.{sort_of}
-use Rattle.rb_weight.specs.Effects.{effect_of, behind, separated}
+use Rattle.rb_weight.specs.Effects.{effect_of, after, separated}
 use Rattle.rb_weight.specs.declared.effect.Before.TheVariants as before
 use Rattle.rb_weight.specs.declared.effect.Level.{Level}
 use Rattle.rb_weight.specs.declared.effect.Level.TheVariants as level
@@ -23,7 +23,7 @@ Goes false s answer = answer ≡ None
 abbrev pub start : ℕ → ℕ → Scan
 start weight here = record { weight = weight; base = weight - here; level = level.Plain; before = before.Plain; outer = [] }
 
--- behind a token that opens a level
+-- after a token that opens a level
 abbrev pub opened : Level → Scan → Scan
 opened l s =
     record s {
@@ -37,11 +37,11 @@ opened l s =
 abbrev pub back : List Outer → Scan → Outer → Scan
 back rest s o = record s { weight = o.weight; base = o.base; level = o.level; outer = rest }
 
--- behind a token that closes the innermost level, if it is not the one at the start
+-- after a token that closes the innermost level, if it is not the one at the start
 abbrev pub closed : Scan → Option Scan
 closed s = elim (slice_get s.outer (length s.outer - 1)) [ Some o ↦ Some (back (take (length s.outer - 1) s.outer) s o) | None ↦ None ]
 
--- behind a token with this effect
+-- after a token with this effect
 unfoldable pub done : Effect → Scan → Option Scan
 done effect.Nothing s = Some s
 done (effect.Opens l) s = Some (opened l s)
@@ -51,11 +51,11 @@ done effect.Separates s = Some (record s { weight = s.base; level = separated s.
 done effect.Divides s = Some (record s { weight = s.base })
 done effect.Counts s = Some (record s { weight = s.weight + 1 })
 
--- behind a token of this shape
+-- after a token of this shape
 abbrev pub step : Shape → Scan → Option Scan
-step c s = done (effect_of s.before s.level (sort_of c)) (record s { before = behind s.before s.level (sort_of c) })
+step c s = done (effect_of s.before s.level (sort_of c)) (record s { before = after s.before s.level (sort_of c) })
 
--- the place of the first of these tokens behind which the weight is too great, the first of them standing at the place `at`
+-- the place of the first of these tokens after which the weight is too great, the first of them standing at the place `at`
 abbrev pub deep_from : ℕ → Scan → List Token → Option ℕ
 deep_from at s [] = None
 deep_from at s (t ∷ ts) =

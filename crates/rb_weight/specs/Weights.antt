@@ -1,10 +1,10 @@
--- The weight behind a list of tokens: the levels that are open there, and the operators that stand directly in them.
+-- The weight after a list of tokens: the levels that are open there, and the operators that stand directly in them.
 use Rattle.std.specs.Prelude.{◌≡◌, ℕ, ◌+◌, ◌-◌, ◌<◌, ◌≤◌, List, [], ◌∷◌, length, take, drop, Option, Some, None}
 use Rattle.rb_tree.specs.Tokens.{shape_of}
 use Rattle.rb_tree.specs.declared.token.Token.{Token}
 use Rattle.rb_tree.specs.declared.token.Shape.{Shape}
 use Rattle.rb_weight.specs.Sorts.{sort_of}
-use Rattle.rb_weight.specs.Effects.{effect_of, behind, separated}
+use Rattle.rb_weight.specs.Effects.{effect_of, after, separated}
 use Rattle.rb_weight.specs.declared.effect.Before.{Before}
 use Rattle.rb_weight.specs.declared.effect.Before.TheVariants as before
 use Rattle.rb_weight.specs.declared.effect.Level.{Level}
@@ -13,13 +13,13 @@ use Rattle.rb_weight.specs.declared.effect.Effect.{Effect}
 use Rattle.rb_weight.specs.declared.effect.Effect.TheVariants as effect
 use Rattle.rb_weight.specs.Limits.{MOST}
 
--- an open level: its kind, and how many operators and modifiers stand directly in it behind its last separator, `,`, `then`,
+-- an open level: its kind, and how many operators and modifiers stand directly in it after its last separator, `,`, `then`,
 -- `else`, `elsif`, `when`, `rescue` or `ensure`
 pub record Open : Type 0 where
   pub level : Level
   pub standing : ℕ
 
--- What is known behind a token: the open levels, the innermost first and the one at the start last, and what the token says about
+-- What is known after a token: the open levels, the innermost first and the one at the start last, and what the token says about
 -- the next one. Where the level at the start has closed, there is none.
 pub record Nest : Type 0 where
   pub levels : List Open
@@ -50,13 +50,13 @@ abbrev pub next : Shape → Nest → Nest
 next c n =
     record {
       levels = turned (effect_of n.before (innermost n.levels) (sort_of c)) n.levels;
-      before = behind n.before (innermost n.levels) (sort_of c);
+      before = after n.before (innermost n.levels) (sort_of c);
     }
 
--- what is known behind these tokens
-abbrev pub nest_behind : Nest → List Token → Nest
-nest_behind n [] = n
-nest_behind n (t ∷ ts) = nest_behind (next (shape_of t.kind) n) ts
+-- what is known after these tokens
+abbrev pub nest_after : Nest → List Token → Nest
+nest_after n [] = n
+nest_after n (t ∷ ts) = nest_after (next (shape_of t.kind) n) ts
 
 -- ---- the weight
 
@@ -66,7 +66,7 @@ operators [] = 0
 operators (o ∷ os) = o.standing + operators os
 
 -- The weight where these levels are open and the one at the start has the weight `around` by itself: one for each level that opened
--- behind the start, and one for each operator.
+-- after the start, and one for each operator.
 abbrev pub weight_of : ℕ → List Open → ℕ
 weight_of around [] = 0
 weight_of around (o ∷ os) = around + length os + operators (o ∷ os)
@@ -75,17 +75,17 @@ weight_of around (o ∷ os) = around + length os + operators (o ∷ os)
 abbrev pub begun : ℕ → Nest
 begun here = record { levels = record { level = level.Plain; standing = here } ∷ []; before = before.Plain }
 
--- the weight behind these tokens from such a start, at which it is `weight`
-abbrev pub weight_behind : ℕ → ℕ → List Token → ℕ
-weight_behind weight here tokens = weight_of (weight - here) (nest_behind (begun here) tokens).levels
+-- the weight after these tokens from such a start, at which it is `weight`
+abbrev pub weight_after : ℕ → ℕ → List Token → ℕ
+weight_after weight here tokens = weight_of (weight - here) (nest_after (begun here) tokens).levels
 
 -- the weight from such a start first passes the greatest at the token at this place, counted from 0
 pub record DeepAt (tokens : List Token) (weight here at : ℕ) : Type 0 where
   pub within : at < length tokens
-  pub deep : MOST < weight_behind weight here (take (at + 1) tokens)
-  pub first : (k : ℕ) → k ≤ at → weight_behind weight here (take k tokens) ≤ MOST
+  pub deep : MOST < weight_after weight here (take (at + 1) tokens)
+  pub first : (k : ℕ) → k ≤ at → weight_after weight here (take k tokens) ≤ MOST
 
--- what place it is behind `from` tokens, if there is one
+-- what place it is after `from` tokens, if there is one
 abbrev pub IsFirstDeep : List Token → ℕ → ℕ → ℕ → Option ℕ → Type 0
 IsFirstDeep tokens from weight here (Some place) = (at : ℕ) × (place ≡ from + at) × DeepAt (drop from tokens) weight here at
 IsFirstDeep tokens from weight here None = (at : ℕ) → ¬ DeepAt (drop from tokens) weight here at

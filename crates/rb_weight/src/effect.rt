@@ -10,9 +10,9 @@ use crate::sort::Sort;
 pub enum Before {
     /// Nothing.
     Plain,
-    /// An `if`, `unless`, `while` or `until` behind it is a modifier.
+    /// An `if`, `unless`, `while` or `until` after it is a modifier.
     Operand,
-    /// `{` or `do`: a `|` behind it opens block parameters.
+    /// `{` or `do`: a `|` after it opens block parameters.
     Block,
     /// It stands in block parameters.
     Bars,
@@ -22,7 +22,7 @@ pub enum Before {
     DefSelf,
     /// The `.` of `def self.`.
     DefDot,
-    /// The name behind `def`: a `(` behind it opens parameters.
+    /// The name after `def`: a `(` after it opens parameters.
     Name,
 }
 
@@ -153,7 +153,7 @@ fn pipe(before: Before) -> Effect
     }
 }
 
-/// What a token does behind such a token, where the innermost open level is of this kind.
+/// What a token does after such a token, where the innermost open level is of this kind.
 #[tactic(auto, unfolding(crate::specs::Effects::effect_of))]
 pub fn effect_of(before: Before, level: Level, sort: Sort) -> Effect
     ensures { result ≡ spec.effect_of before level sort }
@@ -176,9 +176,9 @@ pub fn effect_of(before: Before, level: Level, sort: Sort) -> Effect
 }
 
 /// What a token says about the next one, outside of a method's head and of block parameters.
-#[tactic(auto, unfolding(crate::specs::Effects::behind_plain))]
-fn behind_plain(before: Before, level: Level, sort: Sort) -> Before
-    ensures { result ≡ spec.behind_plain before level sort }
+#[tactic(auto, unfolding(crate::specs::Effects::after_plain))]
+fn after_plain(before: Before, level: Level, sort: Sort) -> Before
+    ensures { result ≡ spec.after_plain before level sort }
 {
     match sort {
         Sort::Operand | Sort::SelfWord => Before::Operand,
@@ -211,8 +211,8 @@ fn behind_plain(before: Before, level: Level, sort: Sort) -> Before
     }
 }
 
-fn behind_def(sort: Sort) -> Before
-    ensures { result ≡ spec.behind_def sort }
+fn after_def(sort: Sort) -> Before
+    ensures { result ≡ spec.after_def sort }
 {
     match sort {
         Sort::SelfWord => Before::DefSelf,
@@ -220,8 +220,8 @@ fn behind_def(sort: Sort) -> Before
     }
 }
 
-fn behind_self(sort: Sort) -> Before
-    ensures { result ≡ spec.behind_self sort }
+fn after_self(sort: Sort) -> Before
+    ensures { result ≡ spec.after_self sort }
 {
     match sort {
         Sort::Dot => Before::DefDot,
@@ -229,8 +229,8 @@ fn behind_self(sort: Sort) -> Before
     }
 }
 
-fn behind_bar(sort: Sort) -> Before
-    ensures { result ≡ spec.behind_bar sort }
+fn after_bar(sort: Sort) -> Before
+    ensures { result ≡ spec.after_bar sort }
 {
     match sort {
         Sort::Pipe => Before::Plain,
@@ -247,32 +247,32 @@ fn is_assign(sort: Sort) -> bool
     }
 }
 
-fn behind_name(level: Level, sort: Sort) -> Before
-    ensures { result ≡ spec.behind_name level sort }
+fn after_name(level: Level, sort: Sort) -> Before
+    ensures { result ≡ spec.after_name level sort }
 {
     if is_assign(sort) {
         Before::Name
     } else {
-        behind_plain(Before::Name, level, sort)
+        after_plain(Before::Name, level, sort)
     }
 }
 
-/// What a token behind such a token says about the next one, where the innermost open level before it is of this kind.
-#[tactic(auto, unfolding(crate::specs::Effects::behind))]
-pub fn behind(before: Before, level: Level, sort: Sort) -> Before
-    ensures { result ≡ spec.behind before level sort }
+/// What a token after such a token says about the next one, where the innermost open level before it is of this kind.
+#[tactic(auto, unfolding(crate::specs::Effects::after))]
+pub fn after(before: Before, level: Level, sort: Sort) -> Before
+    ensures { result ≡ spec.after before level sort }
 {
     match before {
-        Before::Def => behind_def(sort),
-        Before::DefSelf => behind_self(sort),
+        Before::Def => after_def(sort),
+        Before::DefSelf => after_self(sort),
         Before::DefDot => Before::Name,
-        Before::Name => behind_name(level, sort),
-        Before::Bars => behind_bar(sort),
-        Before::Plain | Before::Operand | Before::Block => behind_plain(before, level, sort),
+        Before::Name => after_name(level, sort),
+        Before::Bars => after_bar(sort),
+        Before::Plain | Before::Operand | Before::Block => after_plain(before, level, sort),
     }
 }
 
-/// The kind of a level behind a separator in it.
+/// The kind of a level after a separator in it.
 pub fn separated(level: Level) -> Level
     ensures { result ≡ spec.separated level }
 {

@@ -1,11 +1,11 @@
-//! The weight behind the tokens of a pass from the front.
+//! The weight after the tokens of a pass from the front.
 
 ghost use Rattle.std.specs.Prelude.{◌≡◌, ◌<◌, ◌≤◌, ◌+◌, ◌^◌, IfOk, length};
 ghost use Rattle.rb_weight.specs.Limits as limits;
 ghost use Rattle.rb_weight.specs.Scans as spec;
 
 use crate::MOST;
-use crate::effect::{Before, Effect, Level, behind, effect_of, separated};
+use crate::effect::{Before, Effect, Level, after, effect_of, separated};
 use crate::sort::{Sort, sort_of};
 use rb_tree::token::{Shape, Token};
 use srb_terms::{Items, NoMemory};
@@ -20,7 +20,7 @@ pub struct Outer {
     pub level: Level,
 }
 
-/// What is known behind a token.
+/// What is known after a token.
 #[derive(Debug, Drop)]
 pub struct Scan {
     /// The weight.
@@ -31,7 +31,7 @@ pub struct Scan {
     pub level: Level,
     /// What the token says about the next one.
     pub before: Before,
-    /// The levels around it that opened behind the start, the outermost first.
+    /// The levels around it that opened after the start, the outermost first.
     pub outer: Items<Outer>,
 }
 
@@ -108,12 +108,12 @@ impl Scan {
     {
         let sort = sort_of(shape);
         let effect = effect_of(self.before, self.level, sort);
-        self.before = behind(self.before, self.level, sort);
+        self.before = after(self.before, self.level, sort);
         self.apply(effect)
     }
 }
 
-/// The place of the first of these tokens behind which the weight is over the greatest, the first of them standing at `at`.
+/// The place of the first of these tokens after which the weight is over the greatest, the first of them standing at `at`.
 pub fn deep_from(start: Scan, at: usize, tokens: &[Token]) -> Result<Option<usize>, NoMemory>
     requires light { start.weight ≤ limits.MOST }
     requires fits { at + length tokens.now < 2 ^ 64 }

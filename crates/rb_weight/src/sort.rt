@@ -8,7 +8,7 @@ use rb_tree::token::Shape;
 /// A kind of tokens that have the same part in the weight.
 #[derive(Clone, Copy, PartialEq, Eq, Debug)]
 pub enum Sort {
-    /// An operand's end that closes nothing, or `return`, `break` or `next`: behind it an `if` is a modifier.
+    /// An operand's end that closes nothing, or `return`, `break` or `next`: after it an `if` is a modifier.
     Operand,
     /// `self`, an operand's end too.
     SelfWord,

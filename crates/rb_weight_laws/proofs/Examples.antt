@@ -17,7 +17,7 @@ use Rattle.rb_grammar.specs.Examples.{digit, from_to, token}
 use Rattle.rb_rules.specs.Grammar.{Derives, body_of, DerivesBody, DerivesLevel, DerivesPrimary, DerivesSimple, DerivesStatement, DerivesTerm}
 use Rattle.rb_rules.specs.Grammar.Gap.{Closed, Wide}
 use Rattle.rb_rules.specs.Grammar.Then.{Word, Line}
-use Rattle.rb_rules.specs.Grammar.Parted.{BehindSeparator}
+use Rattle.rb_rules.specs.Grammar.Parted.{AfterSeparator}
 use Rattle.rb_rules.specs.Grammar.RescueVariable.{Bound}
 use Rattle.rb_rules.specs.Grammar.DerivesGuarded.{Unrescued, Rescued}
 use Rattle.rb_rules.specs.Grammar.DerivesRescues.{NoRescue, MoreRescues}
@@ -46,7 +46,7 @@ use Rattle.rb_rules.specs.Grammar.DerivesDeclaration.{Method}
 use Rattle.rb_rules.specs.Grammar.DerivesMethod.{Def}
 use Rattle.rb_rules.specs.Grammar.DerivesParameters.{EmptyParens}
 use Rattle.rb_weight.specs.Sorts.{sort_of}
-use Rattle.rb_weight.specs.Effects.{effect_of, behind, behind_plain}
+use Rattle.rb_weight.specs.Effects.{effect_of, after, after_plain}
 use Rattle.rb_weight.specs.Weights.{begun, within}
 use Rattle.rb_weight_laws.specs.Roles.{Role, roles}
 use Rattle.rb_weight_laws.specs.Weights.{within as levels_within}
@@ -131,7 +131,7 @@ unfolding syntax.out-Node carrier.out tokens.shape_of trees.span_of trees.span_o
 guarded = simply Top (simple-of true
     (Guards true _ _ _ _ [] refl
     (Rescued true _ _ [] None None _ _ _ _ _ (Statements Inside true _ [] _ _ _ _ _ (Wide _ _ _ refl (Closed _)) (name-alone _ (codes "x") _ refl) (NoMore Inside true _) (Closed _))
-    (MoreRescues true _ _ _ _ _ [] _ _ _ _ _ _ _ (BehindSeparator _ _ _ refl) refl
+    (MoreRescues true _ _ _ _ _ [] _ _ _ _ _ _ _ (AfterSeparator _ _ _ refl) refl
     (SomeErrors true _ _ _ (LastPattern true _ _ _ (term-of (sum-level (operand-of (ConstantName true _ (codes "E") _ refl)))))) (Bound _ _ (codes "e") _ refl refl) (Line _ _ refl)
     (Statements Inside true _ [] _ _ _ _ _ (Closed _) (name-alone _ (codes "y") _ refl) (NoMore Inside true _) (Wide _ _ _ refl (Closed _))) (NoRescue true _ _)) (NoElse true _) (NoEnsure true _))
     refl))
@@ -143,23 +143,23 @@ have : (tokens : List Token) (rs : List Role) → roles_told (begun 0) tokens �
 have tokens rs told u d = sym (roles-are-told tokens u d) ∙ told
 
 pub modifier-counts : ModifierCounts
-unfolding tokens.shape_of sort_of effect_of behind behind_plain within role_of
+unfolding tokens.shape_of sort_of effect_of after after_plain within role_of
 modifier-counts = (modified, have MODIFIED _ refl)
 
 pub loop-opens-once : LoopOpensOnce
-unfolding tokens.shape_of sort_of effect_of behind behind_plain within role_of
+unfolding tokens.shape_of sort_of effect_of after after_plain within role_of
 loop-opens-once = (loop, have LOOP _ refl)
 
 pub bars-count-not : BarsCountNot
-unfolding tokens.shape_of sort_of effect_of behind behind_plain within role_of
+unfolding tokens.shape_of sort_of effect_of after after_plain within role_of
 bars-count-not = (block, have BLOCK _ refl)
 
 pub body-begins-by-if : BodyBeginsByIf
-unfolding tokens.shape_of sort_of effect_of behind behind_plain within role_of
+unfolding tokens.shape_of sort_of effect_of after after_plain within role_of
 body-begins-by-if = (method, have METHOD _ refl)
 
 pub rescue-divides : RescueDivides
-unfolding tokens.shape_of sort_of effect_of behind behind_plain within role_of
+unfolding tokens.shape_of sort_of effect_of after after_plain within role_of
 rescue-divides = (guarded, have GUARDED _ refl)
 
 -- ---- the weights

@@ -16,7 +16,7 @@ use Rattle.rb_tree.specs.declared.syntax.Parameter.{Parameter}
 use Rattle.rb_tree.specs.declared.syntax.Guarded.{Guarded}
 use Rattle.rb_tree.specs.declared.syntax.Rescue.{Rescue}
 use Rattle.rb_rules.specs.Forms.{Site}
-use Rattle.rb_rules.specs.Grammar.{DerivesBody, DerivesMore, DerivesStatement, DerivesModified, DerivesSimple, DerivesValue, DerivesTarget, DerivesCallee, DerivesArguments, DerivesArgument, DerivesTerm, DerivesLevel, DerivesPrefixed, DerivesOperand, DerivesSuffix, DerivesIndex, DerivesBrackets, DerivesBlockBehind, DerivesBlock, DerivesDo, DerivesPrimary, DerivesPieces, DerivesElements, DerivesPairs, DerivesPair, DerivesArms, DerivesElse, DerivesSubject, DerivesWhens, DerivesPatterns, DerivesGuarded, DerivesRescues, DerivesRaised, DerivesEnsure, DerivesDeclaration, DerivesMethod, DerivesParameters, DerivesParameterList, DerivesParameter}
+use Rattle.rb_rules.specs.Grammar.{DerivesBody, DerivesMore, DerivesStatement, DerivesModified, DerivesSimple, DerivesValue, DerivesTarget, DerivesCallee, DerivesArguments, DerivesArgument, DerivesTerm, DerivesLevel, DerivesPrefixed, DerivesOperand, DerivesSuffix, DerivesIndex, DerivesBrackets, DerivesBlockAfter, DerivesBlock, DerivesDo, DerivesPrimary, DerivesPieces, DerivesElements, DerivesPairs, DerivesPair, DerivesArms, DerivesElse, DerivesSubject, DerivesWhens, DerivesPatterns, DerivesGuarded, DerivesRescues, DerivesRaised, DerivesEnsure, DerivesDeclaration, DerivesMethod, DerivesParameters, DerivesParameterList, DerivesParameter}
 use Rattle.rb_rules.specs.Grammar.DerivesBody.{NoStatement, Statements}
 use Rattle.rb_rules.specs.Grammar.DerivesMore.{NoMore, Another}
 use Rattle.rb_rules.specs.Grammar.DerivesStatement.{Declared, Simply}
@@ -34,7 +34,7 @@ use Rattle.rb_rules.specs.Grammar.DerivesOperand.{Bare, Suffixed}
 use Rattle.rb_rules.specs.Grammar.DerivesSuffix.{Calls, Within as WithinName, Indexed}
 use Rattle.rb_rules.specs.Grammar.DerivesIndex.{Index}
 use Rattle.rb_rules.specs.Grammar.DerivesBrackets.{NoBrackets, EmptyBrackets, Brackets}
-use Rattle.rb_rules.specs.Grammar.DerivesBlockBehind.{NoBlock, SomeBlock}
+use Rattle.rb_rules.specs.Grammar.DerivesBlockAfter.{NoBlock, SomeBlock}
 use Rattle.rb_rules.specs.Grammar.DerivesBlock.{Braces, DoEnd}
 use Rattle.rb_rules.specs.Grammar.DerivesDo.{NoDo, SomeDo}
 use Rattle.rb_rules.specs.Grammar.DerivesPrimary.{WholeNumber, FloatNumber, SignedWhole, SignedFloat, String, SymbolName, InstanceName, ConstantName, FromTop, SelfPlace, NilPlace, TruePlace, FalsePlace, NameAlone, CallWithBrackets, CallWithBlock, Yields, Supers, EmptyArray, SomeArray, EmptyHash, SomeHash, InParens, Branches, Loops, Guards, Cases}
@@ -62,12 +62,12 @@ use Rattle.rb_weight.specs.declared.effect.Before.{Before}
 use Rattle.rb_weight.specs.declared.effect.Before.TheVariants as before
 use Rattle.rb_weight.specs.declared.effect.Level.{Level}
 use Rattle.rb_weight.specs.declared.effect.Level.TheVariants as level
-use Rattle.rb_weight_laws.specs.Roles.{body_roles, more_roles, statement_roles, modified_roles, simple_roles, value_roles, target_roles, callee_roles, arguments_roles, argument_roles, term_roles, level_roles, prefixed_roles, operand_roles, suffix_roles, index_roles, brackets_roles, block_behind_roles, block_roles, do_roles, primary_roles, pieces_roles, elements_roles, pairs_roles, pair_roles, arms_roles, else_roles, subject_roles, whens_roles, patterns_roles, guarded_roles, rescues_roles, raised_roles, ensure_roles, declaration_roles, method_roles, parameters_roles, parameter_list_roles, parameter_roles}
+use Rattle.rb_weight_laws.specs.Roles.{body_roles, more_roles, statement_roles, modified_roles, simple_roles, value_roles, target_roles, callee_roles, arguments_roles, argument_roles, term_roles, level_roles, prefixed_roles, operand_roles, suffix_roles, index_roles, brackets_roles, block_after_roles, block_roles, do_roles, primary_roles, pieces_roles, elements_roles, pairs_roles, pair_roles, arms_roles, else_roles, subject_roles, whens_roles, patterns_roles, guarded_roles, rescues_roles, raised_roles, ensure_roles, declaration_roles, method_roles, parameters_roles, parameter_list_roles, parameter_roles}
 use Rattle.rb_weight_laws.proofs.Steps.{Run, stay, chain, Ready, ready-usual, Usual, Starts, starts-usual, fresh, starts, Ends, ends, run-ends, ends-run, ends-ends}
 use Rattle.rb_weight_laws.proofs.Steps.Ready.{Fresh, Opened}
 use Rattle.rb_weight_laws.proofs.Steps.Usual.{AtPlain, AtBlock, AtOperand, AtName}
-use Rattle.rb_weight_laws.proofs.Steps.Starts.{Behind}
-use Rattle.rb_weight_laws.proofs.Tokens.{shaped, kinded, operand, self-word, other, operator, counts, divides, separates, opens, brace, paren, paren-behind, parameter-paren, closes, closes-parameters, block-do, choice, loop, modifier, def-word}
+use Rattle.rb_weight_laws.proofs.Steps.Starts.{After}
+use Rattle.rb_weight_laws.proofs.Tokens.{shaped, kinded, operand, self-word, other, operator, counts, divides, separates, opens, brace, paren, paren-after, parameter-paren, closes, closes-parameters, block-do, choice, loop, modifier, def-word}
 use Rattle.rb_weight_laws.proofs.Tokens.Counting.{ByOperator, ByDot, ByAssign}
 use Rattle.rb_weight_laws.proofs.Rows.{operates, assignments, dots, signs, prefixes, jump-words, branch-words, loop-words, modifier-words, branch-ready, loop-ready, command-starts}
 use Rattle.rb_weight_laws.proofs.Names.{Fits, fits-plain, gap, ready-gap, gap-in, then-word, between, end-of, bars, path, superclass, method-name, owner, parted, variable}
@@ -95,13 +95,13 @@ mutual
   simple : {constants free : Bool} {t : Tree} {b : Before} {l : Level} {ls : List Level} {xs ys : List Token} (d : DerivesSimple constants free t xs ys) → Starts b xs → Fits free l → Run b (l ∷ ls) xs (simple_roles d) before.Operand (l ∷ ls) ys
   simple (Valued _ _ _ _ _ d) s f = value d s f
   simple (Jumps _ _ j _ _ is) s f = operand j (jump-words is) (starts-usual s)
-  simple (JumpsWith _ _ j _ _ xs _ is none d) s f = chain (operand j (jump-words is) (starts-usual s)) (value d (Behind xs none) f)
+  simple (JumpsWith _ _ j _ _ xs _ is none d) s f = chain (operand j (jump-words is) (starts-usual s)) (value d (After xs none) f)
 
   value : {constants free : Bool} {t : Tree} {b : Before} {l : Level} {ls : List Level} {xs ys : List Token} (d : DerivesValue constants free t xs ys) → Starts b xs → Fits free l → Run b (l ∷ ls) xs (value_roles d) before.Operand (l ∷ ls) ys
   value (Term _ _ _ _ _ d) s f = term d s f
   value (Assigns _ _ e _ _ _ _ _ d is v) s f = chain (target d s f) (chain (counts e (shaped e is) ByAssign) (value v fresh f))
   value (Computes _ _ o _ _ _ _ _ _ d is v) s f = chain (target d s f) (chain (counts o refl (assignments is)) (value v fresh f))
-  value (Command _ _ _ _ _ _ ps _ _ d none given _ k _) s f = chain (callee d s f) (chain (arguments given (command-starts ps none) tt tt) (do-behind k f))
+  value (Command _ _ _ _ _ _ ps _ _ d none given _ k _) s f = chain (callee d s f) (chain (arguments given (command-starts ps none) tt tt) (do-after k f))
 
   target : {constants free : Bool} {t : Tree} {b : Before} {l : Level} {ls : List Level} {xs ys : List Token} (d : DerivesTarget constants free t xs ys) → Starts b xs → Fits free l → Run b (l ∷ ls) xs (target_roles d) before.Operand (l ∷ ls) ys
   target (Variable _ _ t _ _ is) s f = operand t (kinded t is) (starts-usual s)
@@ -147,7 +147,7 @@ mutual
   operand-of (Suffixed _ _ _ _ _ _ _ _ _ d k) s f = chain (operand-of d s f) (suffix k f)
 
   suffix : {free : Bool} {s : Suffix Tree} {first last : Token} {l : Level} {ls : List Level} {xs ys : List Token} (d : DerivesSuffix free s first last xs ys) → Fits free l → Run before.Operand (l ∷ ls) xs (suffix_roles d) before.Operand (l ∷ ls) ys
-  suffix (Calls _ _ d n _ _ _ _ _ _ _ _ _ is is_name given k _) f = chain (counts d refl (dots is)) (chain (operand n (kinded n is_name) AtPlain) (chain (brackets given) (block-behind k f)))
+  suffix (Calls _ _ d n _ _ _ _ _ _ _ _ _ is is_name given k _) f = chain (counts d refl (dots is)) (chain (operand n (kinded n is_name) AtPlain) (chain (brackets given) (block-after k f)))
   suffix (WithinName _ _ c n _ _ is is_name) f = chain (other c (shaped c is) AtOperand) (operand n (kinded n is_name) AtPlain)
   suffix (Indexed _ _ _ _ _ _ d) f = index d
 
@@ -157,21 +157,21 @@ mutual
 
   brackets : {given : Option (List (Argument Tree))} {first last : Token} {l : Level} {ls : List Level} {xs ys : List Token} (d : DerivesBrackets given first last xs ys) → Run before.Operand (l ∷ ls) xs (brackets_roles d) before.Operand (l ∷ ls) ys
   brackets (NoBrackets _ _) = stay
-  brackets (EmptyBrackets _ o c _ _ is g is_end) = chain (paren-behind o (shaped o is)) (ends-run (gap g AtPlain refl) (λ b u. closes c (shaped c is_end) u))
+  brackets (EmptyBrackets _ o c _ _ is g is_end) = chain (paren-after o (shaped o is)) (ends-run (gap g AtPlain refl) (λ b u. closes c (shaped c is_end) u))
   brackets (Brackets _ o c _ _ _ _ _ is g given _ h is_end) =
-      chain (paren-behind o (shaped o is)) (ends-run (ready-gap g Fresh refl) (λ b q. chain (arguments given (starts q) refl refl) (ends-run (gap h AtOperand refl) (λ b u. closes c (shaped c is_end) u))))
+      chain (paren-after o (shaped o is)) (ends-run (ready-gap g Fresh refl) (λ b q. chain (arguments given (starts q) refl refl) (ends-run (gap h AtOperand refl) (λ b u. closes c (shaped c is_end) u))))
 
-  block-behind : {free : Bool} {k : Option (Block Tree)} {first last : Token} {l : Level} {ls : List Level} {xs ys : List Token} (d : DerivesBlockBehind free k first last xs ys) → Fits free l → Run before.Operand (l ∷ ls) xs (block_behind_roles d) before.Operand (l ∷ ls) ys
-  block-behind (NoBlock _ _ _) f = stay
-  block-behind (SomeBlock _ _ _ _ _ _ d) f = block d f
+  block-after : {free : Bool} {k : Option (Block Tree)} {first last : Token} {l : Level} {ls : List Level} {xs ys : List Token} (d : DerivesBlockAfter free k first last xs ys) → Fits free l → Run before.Operand (l ∷ ls) xs (block_after_roles d) before.Operand (l ∷ ls) ys
+  block-after (NoBlock _ _ _) f = stay
+  block-after (SomeBlock _ _ _ _ _ _ d) f = block d f
 
   block : {free : Bool} {k : Block Tree} {last : Token} {l : Level} {ls : List Level} {xs ys : List Token} (d : DerivesBlock free k last xs ys) → Fits free l → Run before.Operand (l ∷ ls) xs (block_roles d) before.Operand (l ∷ ls) ys
   block (Braces _ o c _ _ _ _ _ is names d is_end) f = chain (brace o (shaped o is) AtOperand) (ends-run (bars names) (λ b q. ends-run (body d q) (λ b u. closes c (shaped c is_end) u)))
   block (DoEnd o c _ _ _ _ _ is names d is_end) f = chain (block-do o (shaped o is) f) (ends-run (bars names) (λ b q. ends-run (body d q) (λ b u. closes c (shaped c is_end) u)))
 
-  do-behind : {free : Bool} {k : Option (Block Tree)} {l : Level} {ls : List Level} {xs ys : List Token} (d : DerivesDo free k xs ys) → Fits free l → Run before.Operand (l ∷ ls) xs (do_roles d) before.Operand (l ∷ ls) ys
-  do-behind (NoDo _ _) f = stay
-  do-behind (SomeDo _ _ _ _ _ _ d) f = block d f
+  do-after : {free : Bool} {k : Option (Block Tree)} {l : Level} {ls : List Level} {xs ys : List Token} (d : DerivesDo free k xs ys) → Fits free l → Run before.Operand (l ∷ ls) xs (do_roles d) before.Operand (l ∷ ls) ys
+  do-after (NoDo _ _) f = stay
+  do-after (SomeDo _ _ _ _ _ _ d) f = block d f
 
   primary : {free : Bool} {t : Tree} {last : Token} {b : Before} {l : Level} {ls : List Level} {xs ys : List Token} (d : DerivesPrimary free t last xs ys) → Starts b xs → Fits free l → Run b (l ∷ ls) xs (primary_roles d) before.Operand (l ∷ ls) ys
   primary (WholeNumber _ t _ _ is) s f = operand t (kinded t is) (starts-usual s)
@@ -188,7 +188,7 @@ mutual
   primary (TruePlace _ t _ is) s f = operand t (shaped t is) (starts-usual s)
   primary (FalsePlace _ t _ is) s f = operand t (shaped t is) (starts-usual s)
   primary (NameAlone _ t _ _ is) s f = operand t (kinded t is) (starts-usual s)
-  primary (CallWithBrackets _ t _ _ _ _ _ _ _ _ is given k _) s f = chain (operand t (kinded t is) (starts-usual s)) (chain (brackets given) (block-behind k f))
+  primary (CallWithBrackets _ t _ _ _ _ _ _ _ _ is given k _) s f = chain (operand t (kinded t is) (starts-usual s)) (chain (brackets given) (block-after k f))
   primary (CallWithBlock _ t _ _ _ _ _ is k) s f = chain (operand t (kinded t is) (starts-usual s)) (block k f)
   primary (Yields _ t _ _ _ _ is given) s f = chain (operand t (shaped t is) (starts-usual s)) (brackets given)
   primary (Supers _ t _ _ _ _ is given) s f = chain (operand t (shaped t is) (starts-usual s)) (brackets given)

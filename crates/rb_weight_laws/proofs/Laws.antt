@@ -4,7 +4,7 @@ use Rattle.std.proofs.lemmas.List.{take-append-le}
 use Rattle.rb_tree.specs.declared.token.Token.{Token}
 use Rattle.rb_tree.specs.declared.syntax.Tree.{Tree}
 use Rattle.rb_rules.specs.Grammar.{Derives}
-use Rattle.rb_weight.specs.Weights.{Open, DeepAt, begun, weight_behind}
+use Rattle.rb_weight.specs.Weights.{Open, DeepAt, begun, weight_after}
 use Rattle.rb_weight.specs.Limits.{MOST}
 use Rattle.rb_weight.specs.declared.effect.Before.TheVariants as before
 use Rattle.rb_weight.specs.declared.effect.Level.TheVariants as level
@@ -36,13 +36,13 @@ weights-are-those-of-the-grammar tokens t d k =
 
 pub fronts-have-the-weights : FrontsHaveTheWeightsOfAnyProgram
 fronts-have-the-weights tokens (more, t, d) k le =
-    ap (λ (ts : List Token). weight_behind 0 0 ts) (sym (take-append-le k tokens more le)) ∙ weights-are-those-of-the-grammar (tokens ++ more) t d k
+    ap (λ (ts : List Token). weight_after 0 0 ts) (sym (take-append-le k tokens more le)) ∙ weights-are-those-of-the-grammar (tokens ++ more) t d k
 
 -- ---- the greatest weight
 
--- the same weights behind these tokens
+-- the same weights after these tokens
 abbrev Same : List Token → List Role → Type 0
-Same tokens rs = (k : ℕ) → k ≤ length tokens → weight_behind 0 0 (take k tokens) ≡ weight_by (take k rs)
+Same tokens rs = (k : ℕ) → k ≤ length tokens → weight_after 0 0 (take k tokens) ≡ weight_by (take k rs)
 
 to-roles : {whole : List Token} {t : Tree} (tokens : List Token) (d : Derives whole t) (at : ℕ) → length tokens ≤ length (roles d) → Same tokens (roles d) → DeepAt tokens 0 0 at → DeepByRoles d at
 to-roles tokens d at le same deep = record {

@@ -18,7 +18,7 @@ use Rattle.rb_rules.specs.Grammar.Path.{LastName, MoreNames}
 use Rattle.rb_rules.specs.Grammar.Superclass.{NoSuperclass, Named, NamedFromTop}
 use Rattle.rb_rules.specs.Grammar.MethodName.{Plain, Writer, Capital, Operator}
 use Rattle.rb_rules.specs.Grammar.Owner.{Other, Own as OwnSelf}
-use Rattle.rb_rules.specs.Grammar.Parted.{BehindNothing, BehindSeparator}
+use Rattle.rb_rules.specs.Grammar.Parted.{AfterNothing, AfterSeparator}
 use Rattle.rb_rules.specs.Grammar.RescueVariable.{NoVariable, Bound}
 use Rattle.rb_rules.specs.Grammar.DerivesEnd.{NoComma, LastComma}
 use Rattle.rb_weight.specs.Sorts.{sort_of}
@@ -32,7 +32,7 @@ use Rattle.rb_weight_laws.proofs.Steps.{Run, stay, chain, Ready, ready-usual, Us
 use Rattle.rb_weight_laws.proofs.Steps.Ready.{Fresh, Opened}
 use Rattle.rb_weight_laws.proofs.Steps.Usual.{AtPlain, AtOperand}
 use Rattle.rb_weight_laws.proofs.Tokens.{shaped, kinded, operand, other, operator, divides, separates, ends-condition, loop-do, Heads, def-self, def-dot, plain-name, operator-name, writer-sign, opens-bars, bar-name, bar-comma, closes-bars}
-use Rattle.rb_weight_laws.proofs.Tokens.Heads.{BehindDef, BehindDot}
+use Rattle.rb_weight_laws.proofs.Tokens.Heads.{AfterDef, AfterDot}
 use Rattle.rb_weight_laws.proofs.Rows.{methods}
 
 -- ---- separators
@@ -51,7 +51,7 @@ unfolding gap_roles sort_of
 gap (Closed _) u no_condition = ends stay u
 gap (Wide t _ _ is g) u no_condition = run-ends (separates t (shaped t is) u no_condition) (gap g AtPlain no_condition)
 
--- where an operand is expected, it still is behind separators
+-- where an operand is expected, it still is after separators
 pub ready-gap : {b : Before} {l : Level} {ls : List Level} {xs ys : List Token} (g : Gap xs ys) → Ready b → is_condition l ≡ false → Ends Ready b (l ∷ ls) xs (gap_roles g) (l ∷ ls) ys
 unfolding gap_roles sort_of
 ready-gap (Closed _) r no_condition = ends stay r
@@ -114,15 +114,15 @@ method-name (Operator t _ _ is) h = operator-name t refl (methods is) h
 
 pub owner : {own : Bool} {l : Level} {ls : List Level} {xs ys : List Token} (d : Owner own xs ys) → Ends Heads before.Def (l ∷ ls) xs (owner_roles d) (l ∷ ls) ys
 unfolding owner_roles sort_of
-owner (Other _) = ends stay BehindDef
-owner (OwnSelf s d _ is is_dot) = ends (chain (def-self s (shaped s is)) (def-dot d (shaped d is_dot))) BehindDot
+owner (Other _) = ends stay AfterDef
+owner (OwnSelf s d _ is is_dot) = ends (chain (def-self s (shaped s is)) (def-dot d (shaped d is_dot))) AfterDot
 
 -- ---- guards
 
 pub parted : {t : Tree} {b : Before} {ls : List Level} {xs ys : List Token} (d : Parted t xs ys) → Usual b → Ends Usual b (level.Plain ∷ ls) xs (parted_roles d) (level.Plain ∷ ls) ys
 unfolding parted_roles sort_of
-parted (BehindNothing _) u = ends stay u
-parted (BehindSeparator _ t _ is) u = ends (separates t (shaped t is) u refl) AtPlain
+parted (AfterNothing _) u = ends stay u
+parted (AfterSeparator _ t _ is) u = ends (separates t (shaped t is) u refl) AtPlain
 
 pub variable : {v : Option PlacedName} {b : Before} {ls : List Level} {xs ys : List Token} (d : RescueVariable v xs ys) → Usual b → Ends Usual b (level.Plain ∷ ls) xs (variable_roles d) (level.Plain ∷ ls) ys
 unfolding variable_roles sort_of shape_of

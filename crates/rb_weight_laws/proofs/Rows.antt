@@ -18,7 +18,7 @@ use Rattle.rb_weight.specs.declared.sort.Sort.TheVariants as sort
 use Rattle.rb_weight.specs.declared.effect.Before.{Before}
 use Rattle.rb_weight.specs.declared.effect.Before.TheVariants as before
 use Rattle.rb_weight_laws.proofs.Steps.{Ready, Starts}
-use Rattle.rb_weight_laws.proofs.Steps.Starts.{First, Behind}
+use Rattle.rb_weight_laws.proofs.Steps.Starts.{First, After}
 use Rattle.rb_weight_laws.proofs.Tokens.{Counting, Modifying}
 use Rattle.rb_weight_laws.proofs.Tokens.Counting.{ByOperator, ByDot, ByPipe}
 use Rattle.rb_weight_laws.proofs.Tokens.Modifying.{ByChoice, ByLoop}
@@ -129,17 +129,17 @@ modifier-words {s = s} {word = word} h = row-holds (λ (s : Shape). Modifying (s
 
 pub branch-ready : {b : Before} {word : Test} (t : Token) (ts : List Token) → IsRow BRANCH_WORDS (shape_of t.kind) word → Starts b (t ∷ ts) → Ready b
 branch-ready t ts h (First _ _ r) = r
-branch-ready t ts (inl p) (Behind _ none) = absurd (none (inl p.0))
-branch-ready t ts (inr (inl p)) (Behind _ none) = absurd (none (inr (inl p.0)))
-branch-ready t ts (inr (inr h)) (Behind _ none) = absurd h
+branch-ready t ts (inl p) (After _ none) = absurd (none (inl p.0))
+branch-ready t ts (inr (inl p)) (After _ none) = absurd (none (inr (inl p.0)))
+branch-ready t ts (inr (inr h)) (After _ none) = absurd h
 
 pub loop-ready : {b : Before} {word : Test} (t : Token) (ts : List Token) → IsRow LOOP_WORDS (shape_of t.kind) word → Starts b (t ∷ ts) → Ready b
 loop-ready t ts h (First _ _ r) = r
-loop-ready t ts (inl p) (Behind _ none) = absurd (none (inr (inr (inl p.0))))
-loop-ready t ts (inr (inl p)) (Behind _ none) = absurd (none (inr (inr (inr (inl p.0)))))
-loop-ready t ts (inr (inr h)) (Behind _ none) = absurd h
+loop-ready t ts (inl p) (After _ none) = absurd (none (inr (inr (inl p.0))))
+loop-ready t ts (inr (inl p)) (After _ none) = absurd (none (inr (inr (inr (inl p.0)))))
+loop-ready t ts (inr (inr h)) (After _ none) = absurd h
 
 -- the arguments of a command begin with no such word
 pub command-starts : (ts : List Token) → ¬ StartsWith NO_COMMAND ts → Starts before.Operand ts
-command-starts [] none = Behind [] (λ h. h)
-command-starts (t ∷ ts) none = Behind (t ∷ ts) (λ h. none (inr (inr (inr (inr (inr (inr (inr (inr (inr (inr (inr (inr h)))))))))))))
+command-starts [] none = After [] (λ h. h)
+command-starts (t ∷ ts) none = After (t ∷ ts) (λ h. none (inr (inr (inr (inr (inr (inr (inr (inr (inr (inr (inr (inr h)))))))))))))

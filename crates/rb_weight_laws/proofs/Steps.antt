@@ -6,7 +6,7 @@ use Rattle.rb_tree.specs.declared.token.Token.{Token}
 use Rattle.rb_rules.specs.Tokens.{StartsWith}
 use Rattle.rb_rules.specs.Forms.{MODIFIERS}
 use Rattle.rb_weight.specs.Sorts.{sort_of}
-use Rattle.rb_weight.specs.Effects.{effect_of, behind, separated}
+use Rattle.rb_weight.specs.Effects.{effect_of, after, separated}
 use Rattle.rb_weight.specs.declared.sort.Sort.{Sort}
 use Rattle.rb_weight.specs.declared.effect.Before.{Before}
 use Rattle.rb_weight.specs.declared.effect.Before.TheVariants as before
@@ -19,7 +19,7 @@ use Rattle.rb_weight_laws.specs.Laws.{role_of}
 
 -- ---- the pass
 
--- the kinds of the open levels behind a token with this effect
+-- the kinds of the open levels after a token with this effect
 unfoldable pub kinds_within : Effect → Level → List Level → List Level
 kinds_within effect.Nothing l ls = l ∷ ls
 kinds_within (effect.Opens m) l ls = m ∷ l ∷ ls
@@ -41,7 +41,7 @@ abbrev pub told : Before → List Level → List Token → List Role
 told b ls [] = []
 told b ls (t ∷ ts) =
     role_of (effect_of b (kind_of ls) (sort_of (shape_of t.kind)))
-    ∷ told (behind b (kind_of ls) (sort_of (shape_of t.kind))) (kinds_with (effect_of b (kind_of ls) (sort_of (shape_of t.kind))) ls) ts
+    ∷ told (after b (kind_of ls) (sort_of (shape_of t.kind))) (kinds_with (effect_of b (kind_of ls) (sort_of (shape_of t.kind))) ls) ts
 
 -- ---- what it tells of some tokens
 
@@ -60,8 +60,8 @@ abbrev pub Sorted : Sort → Token → Type 0
 Sorted s t = sort_of (shape_of t.kind) ≡ s
 
 pub token : {b : Before} {l : Level} {ls : List Level} {xs : List Token} (s : Sort) (t : Token) → Sorted s t →
-    Run b (l ∷ ls) (t ∷ xs) (role_of (effect_of b l s) ∷ []) (behind b l s) (kinds_within (effect_of b l s) l ls) xs
-token {b = b} {l = l} {ls = ls} {xs = xs} s t is = record { tells = ap (λ (s : Sort). role_of (effect_of b l s) ∷ told (behind b l s) (kinds_within (effect_of b l s) l ls) xs) is }
+    Run b (l ∷ ls) (t ∷ xs) (role_of (effect_of b l s) ∷ []) (after b l s) (kinds_within (effect_of b l s) l ls) xs
+token {b = b} {l = l} {ls = ls} {xs = xs} s t is = record { tells = ap (λ (s : Sort). role_of (effect_of b l s) ∷ told (after b l s) (kinds_within (effect_of b l s) l ls) xs) is }
 
 -- ---- what may be known before a token
 
@@ -77,11 +77,11 @@ pub data Usual : Before → Type 0 where
   AtOperand : Usual before.Operand
   AtName : Usual before.Name
 
--- a form may begin with these tokens: where an operand is expected, or behind one where none of the words stands that could be a
+-- a form may begin with these tokens: where an operand is expected, or after one where none of the words stands that could be a
 -- modifier
 pub data Starts : Before → List Token → Type 0 where
   First : (b : Before) (xs : List Token) → Ready b → Starts b xs
-  Behind : (xs : List Token) → ¬ StartsWith MODIFIERS xs → Starts before.Operand xs
+  After : (xs : List Token) → ¬ StartsWith MODIFIERS xs → Starts before.Operand xs
 
 pub ready-usual : {b : Before} → Ready b → Usual b
 ready-usual Fresh = AtPlain
@@ -89,7 +89,7 @@ ready-usual Opened = AtBlock
 
 pub starts-usual : {b : Before} {xs : List Token} → Starts b xs → Usual b
 starts-usual (First _ _ r) = ready-usual r
-starts-usual (Behind _ _) = AtOperand
+starts-usual (After _ _) = AtOperand
 
 pub fresh : {xs : List Token} → Starts before.Plain xs
 fresh {xs = xs} = First before.Plain xs Fresh

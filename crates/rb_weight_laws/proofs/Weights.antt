@@ -3,8 +3,8 @@ use Rattle.std.proofs.Common.{◌≡◌, ℕ, zero, suc, ◌+◌, List, [], ◌�
 use Rattle.rb_tree.specs.Tokens.{shape_of}
 use Rattle.rb_tree.specs.declared.token.Token.{Token}
 use Rattle.rb_weight.specs.Sorts.{sort_of}
-use Rattle.rb_weight.specs.Effects.{effect_of, behind}
-use Rattle.rb_weight.specs.Weights.{Open, Nest, innermost, next, nest_behind, operators, weight_of, begun, weight_behind}
+use Rattle.rb_weight.specs.Effects.{effect_of, after}
+use Rattle.rb_weight.specs.Weights.{Open, Nest, innermost, next, nest_after, operators, weight_of, begun, weight_after}
 use Rattle.rb_weight.specs.Weights.{within as within_open}
 use Rattle.rb_weight.specs.declared.effect.Before.{Before}
 use Rattle.rb_weight.specs.declared.effect.Before.TheVariants as before
@@ -13,7 +13,7 @@ use Rattle.rb_weight.specs.declared.effect.Level.TheVariants as level
 use Rattle.rb_weight.specs.declared.effect.Effect.{Effect}
 use Rattle.rb_weight.specs.declared.effect.Effect.TheVariants as effect
 use Rattle.rb_weight_laws.specs.Roles.{Role}
-use Rattle.rb_weight_laws.specs.Weights.{within, levels_behind, total, weight_of_levels, weight_by}
+use Rattle.rb_weight_laws.specs.Weights.{within, levels_after, total, weight_of_levels, weight_by}
 use Rattle.rb_weight_laws.specs.Laws.{role_of, roles_told}
 use Rattle.rb_weight_laws.proofs.Steps.{kinds_within, told}
 
@@ -40,11 +40,11 @@ pub same-told : (b : Before) (os : List Open) (ts : List Token) → roles_told (
 same-told b os [] = refl
 same-told b [] (t ∷ ts) =
     let s = sort_of (shape_of t.kind) in
-    ap (λ (rs : List Role). role_of (effect_of b level.Plain s) ∷ rs) (same-told (behind b level.Plain s) [] ts)
+    ap (λ (rs : List Role). role_of (effect_of b level.Plain s) ∷ rs) (same-told (after b level.Plain s) [] ts)
 same-told b (o ∷ os) (t ∷ ts) =
     let s = sort_of (shape_of t.kind) in
     let e = effect_of b o.level s in
-    ap (λ (rs : List Role). role_of e ∷ rs) (same-told (behind b o.level s) (within_open e o os) ts ∙ ap (λ (ls : List Level). told (behind b o.level s) ls ts) (kinds-within e o os))
+    ap (λ (rs : List Role). role_of e ∷ rs) (same-told (after b o.level s) (within_open e o os) ts ∙ ap (λ (ls : List Level). told (after b o.level s) ls ts) (kinds-within e o os))
 
 -- ---- the levels and their numbers
 
@@ -62,14 +62,14 @@ numbers-within effect.Separates o os = refl
 numbers-within effect.Divides o os = refl
 numbers-within effect.Counts o os = refl
 
-numbers-behind : (b : Before) (os : List Open) (ts : List Token) → numbers (nest_behind (nest b os) ts).levels ≡ levels_behind (numbers os) (roles_told (nest b os) ts)
-numbers-behind b os [] = refl
-numbers-behind b [] (t ∷ ts) = let s = sort_of (shape_of t.kind) in numbers-behind (behind b level.Plain s) [] ts
-numbers-behind b (o ∷ os) (t ∷ ts) =
+numbers-after : (b : Before) (os : List Open) (ts : List Token) → numbers (nest_after (nest b os) ts).levels ≡ levels_after (numbers os) (roles_told (nest b os) ts)
+numbers-after b os [] = refl
+numbers-after b [] (t ∷ ts) = let s = sort_of (shape_of t.kind) in numbers-after (after b level.Plain s) [] ts
+numbers-after b (o ∷ os) (t ∷ ts) =
     let s = sort_of (shape_of t.kind) in
     let e = effect_of b o.level s in
-    let n = nest (behind b o.level s) (within_open e o os) in
-    numbers-behind (behind b o.level s) (within_open e o os) ts ∙ ap (λ (ns : List ℕ). levels_behind ns (roles_told n ts)) (numbers-within e o os)
+    let n = nest (after b o.level s) (within_open e o os) in
+    numbers-after (after b o.level s) (within_open e o os) ts ∙ ap (λ (ns : List ℕ). levels_after ns (roles_told n ts)) (numbers-within e o os)
 
 length-numbers : (os : List Open) → length (numbers os) ≡ length os
 length-numbers [] = refl
@@ -88,10 +88,10 @@ weight-of-numbers (o ∷ os) =
 
 -- ---- the weight
 
-pub weight-told : (ts : List Token) → weight_behind 0 0 ts ≡ weight_by (roles_told (begun 0) ts)
+pub weight-told : (ts : List Token) → weight_after 0 0 ts ≡ weight_by (roles_told (begun 0) ts)
 weight-told ts =
     let o : Open = record { level = level.Plain; standing = 0 } in
-    weight-of-numbers (nest_behind (nest before.Plain (o ∷ [])) ts).levels ∙ ap weight_of_levels (numbers-behind before.Plain (o ∷ []) ts)
+    weight-of-numbers (nest_after (nest before.Plain (o ∷ [])) ts).levels ∙ ap weight_of_levels (numbers-after before.Plain (o ∷ []) ts)
 
 pub take-told : (k : ℕ) (n : Nest) (ts : List Token) → roles_told n (take k ts) ≡ take k (roles_told n ts)
 take-told zero n ts = refl

@@ -1,4 +1,4 @@
--- A few programs with the roles of their tokens, and with the weights behind these.
+-- A few programs with the roles of their tokens, and with the weights after these.
 use Rattle.std.specs.Prelude.{◌≡◌, ℕ, false, List, [], ◌∷◌, codes, Some, None}
 use Rattle.rb_tree.specs.declared.syntax.Binary.TheVariants as binary
 use Rattle.rb_tree.specs.declared.syntax.Modifier.TheVariants as modifier
@@ -17,7 +17,7 @@ use Rattle.rb_weight_laws.specs.Roles.Role.{Opens, Closes, Counts, LoopDo, Separ
 abbrev pub HaveRoles : List Token → Tree → List Role → Type 0
 HaveRoles tokens t rs = Derives tokens t × ((u : Tree) (d : Derives tokens u) → roles d ≡ rs)
 
--- the weights behind each of some tokens with these roles, where these levels are open before them
+-- the weights after each of some tokens with these roles, where these levels are open before them
 abbrev pub weights_from : List ℕ → List Role → List ℕ
 weights_from levels [] = []
 weights_from levels (r ∷ rs) = weight_of_levels (levels_with r levels) ∷ weights_from (levels_with r levels) rs
@@ -74,7 +74,7 @@ BarsCountNot = HaveRoles BLOCK BLOCK_TREE BLOCK_ROLES
 abbrev pub BlockWeighs : Type 0
 BlockWeighs = weights BLOCK_ROLES ≡ 0 ∷ 1 ∷ 1 ∷ 1 ∷ 1 ∷ 1 ∷ 2 ∷ 2 ∷ 0 ∷ []
 
--- `def f() if x then y end end`: the `if` behind the parameters is no modifier
+-- `def f() if x then y end end`: the `if` after the parameters is no modifier
 abbrev pub METHOD : List Token
 METHOD =
     token kind.Def 0 3 ∷ token (kind.Identifier (codes "f")) 4 5 ∷ token kind.OpenParen 5 6 ∷ token kind.CloseParen 6 7 ∷ token kind.If 8 10

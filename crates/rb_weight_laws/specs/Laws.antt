@@ -6,7 +6,7 @@ use Rattle.rb_tree.specs.declared.syntax.Tree.{Tree}
 use Rattle.rb_rules.specs.Grammar.{Begins, Derives}
 use Rattle.rb_weight.specs.Sorts.{sort_of}
 use Rattle.rb_weight.specs.Effects.{effect_of}
-use Rattle.rb_weight.specs.Weights.{Nest, DeepAt, begun, innermost, next, weight_behind}
+use Rattle.rb_weight.specs.Weights.{Nest, DeepAt, begun, innermost, next, weight_after}
 use Rattle.rb_weight.specs.declared.effect.Effect.{Effect}
 use Rattle.rb_weight.specs.declared.effect.Effect.TheVariants as effect
 use Rattle.rb_weight_laws.specs.Roles.{Role, roles}
@@ -35,14 +35,14 @@ EachTokenHasARole = (tokens : List Token) (t : Tree) (d : Derives tokens t) → 
 abbrev pub RolesAreTold : Type 0
 RolesAreTold = (tokens : List Token) (t : Tree) (d : Derives tokens t) → roles_told (begun 0) tokens ≡ roles d
 
--- Behind each of a program's tokens the pass and the grammar say the same weight.
+-- After each of a program's tokens the pass and the grammar say the same weight.
 abbrev pub WeightsAreThoseOfTheGrammar : Type 0
-WeightsAreThoseOfTheGrammar = (tokens : List Token) (t : Tree) (d : Derives tokens t) (k : ℕ) → weight_behind 0 0 (take k tokens) ≡ weight_by (take k (roles d))
+WeightsAreThoseOfTheGrammar = (tokens : List Token) (t : Tree) (d : Derives tokens t) (k : ℕ) → weight_after 0 0 (take k tokens) ≡ weight_by (take k (roles d))
 
--- So they do behind each of the tokens with which a program begins, whichever program that is.
+-- So they do after each of the tokens with which a program begins, whichever program that is.
 abbrev pub FrontsHaveTheWeightsOfAnyProgram : Type 0
 FrontsHaveTheWeightsOfAnyProgram =
-    (tokens : List Token) (begins : Begins tokens) (k : ℕ) → k ≤ length tokens → weight_behind 0 0 (take k tokens) ≡ weight_by (take k (roles begins.2))
+    (tokens : List Token) (begins : Begins tokens) (k : ℕ) → k ≤ length tokens → weight_after 0 0 (take k tokens) ≡ weight_by (take k (roles begins.2))
 
 -- The weight passes the greatest at the same token of a program.
 abbrev pub ProgramsAreDeepByRoles : Type 0

@@ -21,7 +21,7 @@ use Rattle.rb_tree.specs.declared.syntax.Guarded.{Guarded}
 use Rattle.rb_tree.specs.declared.syntax.Rescue.{Rescue}
 use Rattle.rb_rules.specs.Tokens.{IsAny}
 use Rattle.rb_rules.specs.Forms.{Site}
-use Rattle.rb_rules.specs.Grammar.{Derives, Gap, GapIn, Then, BarNames, Bars, Path, Superclass, MethodName, Owner, Parted, RescueVariable, DerivesBody, DerivesMore, DerivesStatement, DerivesModified, DerivesSimple, DerivesValue, DerivesTarget, DerivesCallee, DerivesArguments, DerivesArgument, DerivesTerm, DerivesLevel, DerivesPrefixed, DerivesOperand, DerivesSuffix, DerivesIndex, DerivesEnd, DerivesBrackets, DerivesBlockBehind, DerivesBlock, DerivesDo, DerivesPrimary, DerivesPieces, DerivesElements, DerivesPairs, DerivesPair, DerivesArms, DerivesElse, DerivesSubject, DerivesWhens, DerivesPatterns, DerivesGuarded, DerivesRescues, DerivesRaised, DerivesEnsure, DerivesDeclaration, DerivesMethod, DerivesParameters, DerivesParameterList, DerivesParameter}
+use Rattle.rb_rules.specs.Grammar.{Derives, Gap, GapIn, Then, BarNames, Bars, Path, Superclass, MethodName, Owner, Parted, RescueVariable, DerivesBody, DerivesMore, DerivesStatement, DerivesModified, DerivesSimple, DerivesValue, DerivesTarget, DerivesCallee, DerivesArguments, DerivesArgument, DerivesTerm, DerivesLevel, DerivesPrefixed, DerivesOperand, DerivesSuffix, DerivesIndex, DerivesEnd, DerivesBrackets, DerivesBlockAfter, DerivesBlock, DerivesDo, DerivesPrimary, DerivesPieces, DerivesElements, DerivesPairs, DerivesPair, DerivesArms, DerivesElse, DerivesSubject, DerivesWhens, DerivesPatterns, DerivesGuarded, DerivesRescues, DerivesRaised, DerivesEnsure, DerivesDeclaration, DerivesMethod, DerivesParameters, DerivesParameterList, DerivesParameter}
 use Rattle.rb_rules.specs.Grammar.Gap.{Closed, Wide}
 use Rattle.rb_rules.specs.Grammar.GapIn.{Tight, Loose}
 use Rattle.rb_rules.specs.Grammar.Then.{Word, Line, LineWord}
@@ -31,7 +31,7 @@ use Rattle.rb_rules.specs.Grammar.Path.{LastName, MoreNames}
 use Rattle.rb_rules.specs.Grammar.Superclass.{NoSuperclass, Named, NamedFromTop}
 use Rattle.rb_rules.specs.Grammar.MethodName.{Plain, Writer, Capital, Operator}
 use Rattle.rb_rules.specs.Grammar.Owner.{Other, Own as OwnSelf}
-use Rattle.rb_rules.specs.Grammar.Parted.{BehindNothing, BehindSeparator}
+use Rattle.rb_rules.specs.Grammar.Parted.{AfterNothing, AfterSeparator}
 use Rattle.rb_rules.specs.Grammar.RescueVariable.{NoVariable, Bound}
 use Rattle.rb_rules.specs.Grammar.DerivesBody.{NoStatement, Statements}
 use Rattle.rb_rules.specs.Grammar.DerivesMore.{NoMore, Another}
@@ -51,7 +51,7 @@ use Rattle.rb_rules.specs.Grammar.DerivesSuffix.{Calls, Within as WithinName, In
 use Rattle.rb_rules.specs.Grammar.DerivesIndex.{Index}
 use Rattle.rb_rules.specs.Grammar.DerivesEnd.{NoComma, LastComma}
 use Rattle.rb_rules.specs.Grammar.DerivesBrackets.{NoBrackets, EmptyBrackets, Brackets}
-use Rattle.rb_rules.specs.Grammar.DerivesBlockBehind.{NoBlock, SomeBlock}
+use Rattle.rb_rules.specs.Grammar.DerivesBlockAfter.{NoBlock, SomeBlock}
 use Rattle.rb_rules.specs.Grammar.DerivesBlock.{Braces, DoEnd}
 use Rattle.rb_rules.specs.Grammar.DerivesDo.{NoDo, SomeDo}
 use Rattle.rb_rules.specs.Grammar.DerivesPrimary.{WholeNumber, FloatNumber, SignedWhole, SignedFloat, String, SymbolName, InstanceName, ConstantName, FromTop, SelfPlace, NilPlace, TruePlace, FalsePlace, NameAlone, CallWithBrackets, CallWithBlock, Yields, Supers, EmptyArray, SomeArray, EmptyHash, SomeHash, InParens, Branches, Loops, Guards, Cases}
@@ -152,8 +152,8 @@ owner_roles (OwnSelf _ _ _ _ _) = Role.Stands ∷ Role.Counts ∷ []
 -- ---- guards
 
 unfoldable pub parted_roles : {before : Tree} {xs ys : List Token} → Parted before xs ys → List Role
-parted_roles (BehindNothing _) = []
-parted_roles (BehindSeparator _ _ _ _) = Role.Separates ∷ []
+parted_roles (AfterNothing _) = []
+parted_roles (AfterSeparator _ _ _ _) = Role.Separates ∷ []
 
 -- `=>` doesn't count
 unfoldable pub variable_roles : {variable : Option PlacedName} {xs ys : List Token} → RescueVariable variable xs ys → List Role
@@ -235,7 +235,7 @@ unfoldable mutual
   operand_roles (Suffixed _ _ _ _ _ _ _ _ _ d s) = operand_roles d ++ suffix_roles s
 
   pub suffix_roles : {free : Bool} {s : Suffix Tree} {before last : Token} {xs ys : List Token} → DerivesSuffix free s before last xs ys → List Role
-  suffix_roles (Calls _ _ _ _ _ _ _ _ _ _ _ _ _ _ _ given block _) = Role.Counts ∷ Role.Stands ∷ brackets_roles given ++ block_behind_roles block
+  suffix_roles (Calls _ _ _ _ _ _ _ _ _ _ _ _ _ _ _ given block _) = Role.Counts ∷ Role.Stands ∷ brackets_roles given ++ block_after_roles block
   suffix_roles (WithinName _ _ _ _ _ _ _ _) = Role.Stands ∷ Role.Stands ∷ []
   suffix_roles (Indexed _ _ _ _ _ _ d) = index_roles d
 
@@ -247,9 +247,9 @@ unfoldable mutual
   brackets_roles (EmptyBrackets _ _ _ _ _ _ g _) = Role.Opens ∷ gap_roles g ++ Role.Closes ∷ []
   brackets_roles (Brackets _ _ _ _ _ _ _ _ _ g given _ h _) = Role.Opens ∷ gap_roles g ++ (arguments_roles given ++ (gap_roles h ++ Role.Closes ∷ []))
 
-  pub block_behind_roles : {free : Bool} {b : Option (Block Tree)} {before last : Token} {xs ys : List Token} → DerivesBlockBehind free b before last xs ys → List Role
-  block_behind_roles (NoBlock _ _ _) = []
-  block_behind_roles (SomeBlock _ _ _ _ _ _ d) = block_roles d
+  pub block_after_roles : {free : Bool} {b : Option (Block Tree)} {before last : Token} {xs ys : List Token} → DerivesBlockAfter free b before last xs ys → List Role
+  block_after_roles (NoBlock _ _ _) = []
+  block_after_roles (SomeBlock _ _ _ _ _ _ d) = block_roles d
 
   pub block_roles : {free : Bool} {b : Block Tree} {last : Token} {xs ys : List Token} → DerivesBlock free b last xs ys → List Role
   block_roles (Braces _ _ _ _ _ _ _ _ _ names d _) = Role.Opens ∷ bars_roles names ++ (body_roles d ++ Role.Closes ∷ [])
@@ -275,7 +275,7 @@ unfoldable mutual
   primary_roles (TruePlace _ _ _ _) = Role.Stands ∷ []
   primary_roles (FalsePlace _ _ _ _) = Role.Stands ∷ []
   primary_roles (NameAlone _ _ _ _ _) = Role.Stands ∷ []
-  primary_roles (CallWithBrackets _ _ _ _ _ _ _ _ _ _ _ given block _) = Role.Stands ∷ brackets_roles given ++ block_behind_roles block
+  primary_roles (CallWithBrackets _ _ _ _ _ _ _ _ _ _ _ given block _) = Role.Stands ∷ brackets_roles given ++ block_after_roles block
   primary_roles (CallWithBlock _ _ _ _ _ _ _ _ block) = Role.Stands ∷ block_roles block
   primary_roles (Yields _ _ _ _ _ _ _ given) = Role.Stands ∷ brackets_roles given
   primary_roles (Supers _ _ _ _ _ _ _ given) = Role.Stands ∷ brackets_roles given

@@ -10,7 +10,7 @@ use Rattle.rb_weight_laws.specs.Roles.Role.{Opens, Closes, Counts, LoopDo, Separ
 -- An open level is told by a number: the operators and modifiers that stand directly in it since its last separator, `,`, `then`,
 -- `else`, `elsif`, `when`, `rescue` or `ensure`. The innermost comes first, and the program itself last.
 
--- the levels behind a token with this role, which stands in a level with this number
+-- the levels after a token with this role, which stands in a level with this number
 unfoldable pub within : Role → ℕ → List ℕ → List ℕ
 within Opens n around = 0 ∷ n ∷ around
 within Closes n around = around
@@ -20,15 +20,15 @@ within Separates n around = 0 ∷ around
 within Divides n around = 0 ∷ around
 within Stands n around = n ∷ around
 
--- behind the program's end there is none
+-- after the program's end there is none
 abbrev pub levels_with : Role → List ℕ → List ℕ
 levels_with r [] = []
 levels_with r (n ∷ around) = within r n around
 
--- the levels behind tokens with these roles
-abbrev pub levels_behind : List ℕ → List Role → List ℕ
-levels_behind levels [] = levels
-levels_behind levels (r ∷ rs) = levels_behind (levels_with r levels) rs
+-- the levels after tokens with these roles
+abbrev pub levels_after : List ℕ → List Role → List ℕ
+levels_after levels [] = levels
+levels_after levels (r ∷ rs) = levels_after (levels_with r levels) rs
 
 abbrev pub total : List ℕ → ℕ
 total [] = 0
@@ -39,9 +39,9 @@ abbrev pub weight_of_levels : List ℕ → ℕ
 weight_of_levels [] = 0
 weight_of_levels (n ∷ around) = length around + total (n ∷ around)
 
--- the weight behind a program's tokens with these roles
+-- the weight after a program's tokens with these roles
 abbrev pub weight_by : List Role → ℕ
-weight_by rs = weight_of_levels (levels_behind (0 ∷ []) rs)
+weight_by rs = weight_of_levels (levels_after (0 ∷ []) rs)
 
 -- the weight by roles first passes the greatest at the token at this place, counted from 0
 pub record DeepByRoles {tokens : List Token} {t : Tree} (d : Derives tokens t) (at : ℕ) : Type 0 where

@@ -19,14 +19,14 @@ pub fn roles_are_told()
     ensures { RolesAreTold }
 {}
 
-/// Behind each of a program's tokens the pass has the weight that their roles have. It has that of the roles in any program that
+/// After each of a program's tokens the pass has the weight that their roles have. It has that of the roles in any program that
 /// begins with the tokens passed, whichever it is.
 pub fn weights_are_those_of_the_grammar()
     ensures programs { WeightsAreThoseOfTheGrammar }
     ensures fronts { FrontsHaveTheWeightsOfAnyProgram }
 {}
 
-/// So the first token at which a program is too deep is the first behind which the weight of the roles is too great. The same holds of
+/// So the first token at which a program is too deep is the first after which the weight of the roles is too great. The same holds of
 /// tokens that begin a program.
 pub fn depths_are_those_of_the_grammar()
     ensures programs { ProgramsAreDeepByRoles }
@@ -34,7 +34,7 @@ pub fn depths_are_those_of_the_grammar()
 {}
 
 /// A few programs with the roles of their tokens: with a modifier, with a loop and its `do`, with a block and its bars, and with an
-/// `if` behind the parameters of a method, with a `begin` and its `rescue`; and the weights behind the tokens of two.
+/// `if` after the parameters of a method, with a `begin` and its `rescue`; and the weights after the tokens of two.
 pub fn examples_have_roles()
     ensures modifier { ModifierCounts }
     ensures loop_do { LoopOpensOnce }

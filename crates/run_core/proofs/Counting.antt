@@ -78,7 +78,7 @@ SameProject h s = s.session ≡ h.session
 same_project : (h : History) (s : State) → SameProject h s → length (project_of s) ≡ length h.session.documents.project
 same_project h s same = ap (λ (x : Session). length x.documents.project) same
 
--- Behind a state in which so many files are owed, the steps that work are at most these, the edits, and the files of
+-- After a state in which so many files are owed, the steps that work are at most these, the edits, and the files of
 -- each build.
 works_within : (language : Language) (h : History) (s : State) (xs : List Step) (k : ℕ) → SameProject h s → Leads language s xs → IsWithin k s →
     works xs + length h.edits ≤ k + length (heard_all h (messages_in xs)).edits + files_built h xs
@@ -166,7 +166,7 @@ counted_change language h m ms = by_test (is_change language h (told h.session m
     by_test true n = omega arith
     by_test false n = omega arith
 
--- Behind a state in which so many builds may come, the builds are at most these, one for `initialize`, and the edits that
+-- After a state in which so many builds may come, the builds are at most these, one for `initialize`, and the edits that
 -- change.
 builds_within : (language : Language) (h : History) (s : State) (xs : List Step) (b : ℕ) → SameProject h s → Leads language s xs → MayBuild b s.stale →
     builds xs ≤ b + to_begin h.session.phase + changes_in language h (messages_in xs)

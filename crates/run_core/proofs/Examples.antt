@@ -293,7 +293,7 @@ backwards : (history [] (begin ∷ open_a ∷ msg.Changed (codes "file:///p/a.rb
 unfolding percent_decode is_utf8 chars encode
 backwards = refl
 
--- ---- `shutdown` is answered behind the checks that are owed
+-- ---- `shutdown` is answered after the checks that are owed
 
 abbrev shut_early : List Step
 shut_early = take begin ∷ Look ∷ Build ∷ take shut ∷ Work (codes "a.rb") 0 (error (codes "x") ∷ []) true ∷ Idle ∷ []
@@ -315,7 +315,7 @@ shut_early_waits : Permits toy (last_state toy one_file (take begin ∷ Look ∷
 unfolding percent_decode is_utf8 chars encode
 shut_early_waits p = cc
 
--- ---- requests before `initialize`, after `shutdown`, and messages behind `exit`
+-- ---- requests before `initialize`, after `shutdown`, and messages after `exit`
 
 too_early : answers_to [] (msg.Unknown (id.Number (pos 7)) ∷ []) ≡ out.Error (Some (id.Number (pos 7))) (negsuc 32001) ∷ []
 too_early = refl
@@ -332,13 +332,13 @@ unreadable : answers_to [] (msg.BadParams (codes "initialize") (Some (id.Number 
     out.Error (Some (id.Number (pos 1))) (negsuc 32601) ∷ out.Initialized (id.Number (pos 1)) ∷ []
 unreadable = refl
 
-behind_exit : answers_to [] (msg.Exit ∷ msg.Unknown (id.Number (pos 7)) ∷ begin ∷ []) ≡
+after_exit : answers_to [] (msg.Exit ∷ msg.Unknown (id.Number (pos 7)) ∷ begin ∷ []) ≡
     out.Error (Some (id.Number (pos 7))) (negsuc 32001) ∷ out.Initialized (id.Number (pos 1)) ∷ []
-behind_exit = refl
+after_exit = refl
 
--- no message is taken behind the end of input
-behind_end : Permits toy (last_state toy [] (end ∷ [])) (take begin) → ⊥
-behind_end p = cc
+-- no message is taken after the end of input
+after_end : Permits toy (last_state toy [] (end ∷ [])) (take begin) → ⊥
+after_end p = cc
 
 -- ---- what is not legal
 
@@ -351,9 +351,9 @@ two_edits = begin ∷ open_a ∷ open_a ∷ []
 abbrev list_at : ℕ → Out
 list_at n = out.List (codes "file:///p/a.rb") n (placed_here (codes "x") ∷ [])
 
-older_behind_newer : LegalSoFar toy [] two_edits (greeting ∷ list_at 2 ∷ list_at 1 ∷ []) → ⊥
+older_after_newer : LegalSoFar toy [] two_edits (greeting ∷ list_at 2 ∷ list_at 1 ∷ []) → ⊥
 unfolding percent_decode is_utf8 chars encode
-older_behind_newer legal = let fall : 2 ≤ 1 = legal.1.1.0.rising.0 in omega arith
+older_after_newer legal = let fall : 2 ≤ 1 = legal.1.1.0.rising.0 in omega arith
 
 list_before_greeting : LegalSoFar toy [] two_edits (list_at 1 ∷ greeting ∷ []) → ⊥
 list_before_greeting legal = let greeted : false ≡ true = legal.0.greeted in cc
@@ -361,10 +361,10 @@ list_before_greeting legal = let greeted : false ≡ true = legal.0.greeted in c
 out_of_order : LegalSoFar toy [] (msg.Unknown (id.Number (pos 7)) ∷ begin ∷ []) (greeting ∷ []) → ⊥
 out_of_order legal = let first = legal.0.1 in cc
 
-list_behind_farewell : LegalSoFar toy [] (begin ∷ open_a ∷ shut ∷ []) (greeting ∷ out.Null (id.Number (pos 2)) ∷ list_at 1 ∷ []) → ⊥
-list_behind_farewell legal = let serving : true ≡ false = legal.1.1.0.serving in cc
+list_after_farewell : LegalSoFar toy [] (begin ∷ open_a ∷ shut ∷ []) (greeting ∷ out.Null (id.Number (pos 2)) ∷ list_at 1 ∷ []) → ⊥
+list_after_farewell legal = let serving : true ≡ false = legal.1.1.0.serving in cc
 
--- epoch 1 comes behind the answers to the messages before the first edit
+-- epoch 1 comes after the answers to the messages before the first edit
 list_before_answer : LegalSoFar toy [] (begin ∷ msg.Unknown (id.Number (pos 7)) ∷ open_a ∷ []) (greeting ∷ list_at 1 ∷ []) → ⊥
 unfolding percent_decode is_utf8 chars encode
 list_before_answer legal = let answered = legal.1.0.answered.1 in cc

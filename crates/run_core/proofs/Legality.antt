@@ -1,4 +1,4 @@
--- The laws of legality: it holds of each part from the start, stays with more messages behind, and grows at the end.
+-- The laws of legality: it holds of each part from the start, stays with more messages after, and grows at the end.
 use Rattle.std.proofs.Common.{◌≡◌, ℕ, suc, zero, ◌≤◌, true, ◌||◌, List, [], ◌∷◌, ◌++◌, length, refl, sym, ap, subst, arith, append_assoc, length-append}
 use Rattle.std.specs.Prelude.{Some}
 use Rattle.std.proofs.lemmas.List.{append-nil, take-append-le}
@@ -122,7 +122,7 @@ all_stay language base h (m ∷ ms) s xs may =
     let t = told h.session m in
     all_stay language base (heard h m) ms (heard_sound base h t f s) xs (each_stays language base h t f s [] xs may)
 
--- What is legal so far stays so with more messages behind.
+-- What is legal so far stays so with more messages after.
 pub legal_stays : (language : Language) (base : Project) (ms more : List Msg) (xs : List Out) →
     LegalSoFar language base ms xs → LegalSoFar language base (ms ++ more) xs
 legal_stays language base ms more xs legal =
@@ -141,7 +141,7 @@ pub legal_part : (language : Language) (base : Project) (ms : List Msg) (xs ys :
     LegalSoFar language base ms (xs ++ ys) → LegalSoFar language base ms xs
 legal_part language base ms xs ys legal = each_part language base (history base ms) [] xs ys legal
 
--- What may stand behind all of them may stand at their end.
+-- What may stand after all of them may stand at their end.
 pub each_end : (language : Language) (base : Project) (h : History) (front xs : List Out) (x : Out) →
     EachMayStand language base h front xs → MayStand language base h (front ++ xs) x → EachMayStand language base h front (xs ++ x ∷ [])
 each_end language base h front [] x may one = (subst (λ f. MayStand language base h f x) (append-nil front) one, tt)

@@ -56,10 +56,10 @@ HasListSince-append u n (out.List v k i ∷ xs) ys (inl p) = inl p
 HasListSince-append u n (out.List v k i ∷ xs) ys (inr p) = inr (HasListSince-append u n xs ys p)
 HasListSince-append u n (x ∷ xs) ys p = HasListSince-append u n xs ys p
 
-pub HasListSince-behind : (u : List ℕ) (n : ℕ) (xs ys : List Out) → HasListSince u n ys → HasListSince u n (xs ++ ys)
-HasListSince-behind u n [] ys p = p
-HasListSince-behind u n (out.List v k i ∷ xs) ys p = inr (HasListSince-behind u n xs ys p)
-HasListSince-behind u n (x ∷ xs) ys p = HasListSince-behind u n xs ys p
+pub HasListSince-after : (u : List ℕ) (n : ℕ) (xs ys : List Out) → HasListSince u n ys → HasListSince u n (xs ++ ys)
+HasListSince-after u n [] ys p = p
+HasListSince-after u n (out.List v k i ∷ xs) ys p = inr (HasListSince-after u n xs ys p)
+HasListSince-after u n (x ∷ xs) ys p = HasListSince-after u n xs ys p
 
 -- ---- an answer among them
 

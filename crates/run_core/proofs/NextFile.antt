@@ -76,9 +76,9 @@ first_least f g fs sorted in_it = by (bytes_eq g f) refl in_it
 has_first : (f : Path) (fs : List Path) → has f (f ∷ fs) ≡ true
 has_first f fs = ap (λ b. b || has f fs) (self_path f)
 
-not_behind : (f : Path) (fs : List Path) → IsBeforePaths f fs → has f fs ≡ false
-not_behind f [] all = refl
-not_behind f (g ∷ gs) all = ap (λ b. b || has f gs) (apart f g all.0) ∙ not_behind f gs all.1
+not_after : (f : Path) (fs : List Path) → IsBeforePaths f fs → has f fs ≡ false
+not_after f [] all = refl
+not_after f (g ∷ gs) all = ap (λ b. b || has f gs) (apart f g all.0) ∙ not_after f gs all.1
 
 no_list : (f : Path) (rows : List Row) → IsBeforeRows f rows → lookup f (lists_shown rows) ≡ None
 no_list f [] all = refl
@@ -129,7 +129,7 @@ has-at m (r ∷ rs) zero row order is =
   where
     by : (b : Bool) → has_mark m r ≡ b → has r.path (cond b (r.path ∷ marked m rs) (marked m rs)) ≡ has_mark m r
     by true e = has_first r.path (marked m rs) ∙ sym e
-    by false e = not_behind r.path (marked m rs) (marked-before m r.path rs order.0) ∙ sym e
+    by false e = not_after r.path (marked m rs) (marked-before m r.path rs order.0) ∙ sym e
 has-at m (r ∷ rs) (suc i) row order is = by (has_mark m r) (has-at m rs i row order.1 is)
   where
     by : (b : Bool) → has row.path (marked m rs) ≡ has_mark m row → has row.path (cond b (r.path ∷ marked m rs) (marked m rs)) ≡ has_mark m row

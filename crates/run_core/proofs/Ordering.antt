@@ -59,7 +59,7 @@ owed_work f g owed = (
       let o = other_path f g p.0 in let h = p.1 in has-without_path f g owed ∙ grind (arith, nat_tests, o, h),
 )
 
--- What is owed behind some steps was edited in them and not worked on since, or was owed before and not worked on.
+-- What is owed after some steps was edited in them and not worked on since, or was owed before and not worked on.
 owed_by : (language : Language) (h : History) (s : State) (xs : List Step) (f : Path) → s.session ≡ h.session → Leads language s xs →
     (has f (state_after language s xs).owed ≡ true) ↔ (IsOwedBy h f xs ⊎ ((has f s.owed ≡ true) × NoWorkOn f xs))
 owed_by language h s [] f same run = (λ p. inr (p, tt), λ p. ⊎_elim (λ q. absurd q) (λ q. q.0) p)

@@ -94,7 +94,7 @@ place_of-within f (r ∷ rs) = by (is_before r.path f) (place_of-within f rs)
     by true rest = omega (arith, rest)
     by false rest = omega arith
 
--- behind a row that stands before the path
+-- after a row that stands before the path
 pub place_of-past : (f : Path) (rows : List Row) (i : ℕ) (row : Row) → IsOrdered rows → slice_get rows i ≡ Some row → is_before row.path f ≡ true → suc i ≤ place_of f rows
 place_of-past f [] i row order is before = grind (arith, is)
 place_of-past f (r ∷ rs) zero row order is before =
@@ -104,7 +104,7 @@ place_of-past f (r ∷ rs) (suc i) row order is before =
     let ih = place_of-past f rs i row order.1 is before in
     omega (arith, e, ih)
 
--- not behind a row that doesn't
+-- not after a row that doesn't
 pub place_of-low : (f : Path) (rows : List Row) (i : ℕ) (row : Row) → slice_get rows i ≡ Some row → is_before row.path f ≡ false → place_of f rows ≤ i
 place_of-low f [] i row is before = omega arith
 place_of-low f (r ∷ rs) zero row is before =
@@ -115,7 +115,7 @@ place_of-low f (r ∷ rs) (suc i) row is before = by (is_before r.path f) (place
     by true rest = omega (arith, rest)
     by false rest = omega arith
 
--- an edit behind the first row leaves it
+-- an edit after the first row leaves it
 passed : (f : Path) (present kept : Bool) (r : Row) (rs : List Row) → is_before r.path f ≡ true → after_edited f present kept (r ∷ rs) ≡ r ∷ after_edited f present kept rs
 passed f present kept r rs b =
     ap (λ x. cond x (edited_row present kept r ∷ rs) (cond (is_before f r.path) (edited_row present kept (new_row f) ∷ r ∷ rs) (r ∷ after_edited f present kept rs))) (apart_back r.path f b)
@@ -123,7 +123,7 @@ passed f present kept r rs b =
 
 -- a path that isn't that of a row, which doesn't stand before it, stands before the row
 before_else : (f g : Path) → bytes_eq f g ≡ false → is_before g f ≡ false → is_before f g ≡ true
-before_else f g other behind = either g f (sym (same_test g f) ∙ other) behind
+before_else f g other after = either g f (sym (same_test g f) ∙ other) after
 
 -- the row of the path is changed at its index
 pub edited_at : (f : Path) (present kept : Bool) (rows : List Row) (row : Row) → slice_get rows (place_of f rows) ≡ Some row → bytes_eq f row.path ≡ true

@@ -40,7 +40,7 @@ through f g h e d = ap is_lt (nat_list_cmp_total.trans f g h (less _ e) (less _ 
 
 -- of two paths that aren't one, one stands before the other
 pub either : (f g : Path) → bytes_eq f g ≡ false → is_before f g ≡ false → is_before g f ≡ true
-either f g other behind = by (path_cmp f g) refl (sym (texts_ties f g) ∙ other) behind
+either f g other after = by (path_cmp f g) refl (sym (texts_ties f g) ∙ other) after
   where
     by : (o : Ordering) → path_cmp f g ≡ o → is_eq o ≡ false → is_lt o ≡ false → is_before g f ≡ true
     by Less is a b = grind (arith, b)
@@ -95,7 +95,7 @@ before_through f g (r ∷ rs) e all = (through f g r.path e all.0, before_throug
 before_marked : (m : Mark) (f : Path) (r : Row) (rs : List Row) → is_before f r.path ≡ true → IsBeforeRows r.path rs → IsBeforePaths f (r.path ∷ marked m rs)
 before_marked m f r rs b order = (b, marked-before m f rs (before_through f r.path rs b order))
 
--- the path of the first row, of which the rows behind are no marks
+-- the path of the first row, of which the rows after are no marks
 without_here : (m : Mark) (f : Path) (r : Row) (rs : List Row) → bytes_eq f r.path ≡ true → IsBeforeRows r.path rs → without_path f (marked m rs) ≡ marked m rs
 without_here m f r rs e order =
     ap (λ g. without_path g (marked m rs)) (same_path f r.path e) ∙ without_path-none r.path (marked m rs) (marked-before m r.path rs order)
@@ -346,9 +346,9 @@ list_here f list r rs order e = ap (λ b. lists_shown (cond b (worked_row (Some 
         ap (λ g. (g, list) ∷ lists_shown rs) (sym (same_path f r.path e))
         ∙ sym (ap (λ b. cond b ((f, list) ∷ lists_shown rs) (cond (is_before f r.path) ((f, list) ∷ (r.path, old) ∷ lists_shown rs) ((r.path, old) ∷ put f list (lists_shown rs)))) e)
 
-list_behind : (f : Path) (list : List Diag) (r : Row) (rs : List Row) → is_before r.path f ≡ true → lists_shown (after_worked f (Some list) rs) ≡ put f list (lists_shown rs)
+list_later : (f : Path) (list : List Diag) (r : Row) (rs : List Row) → is_before r.path f ≡ true → lists_shown (after_worked f (Some list) rs) ≡ put f list (lists_shown rs)
     → lists_shown (after_worked f (Some list) (r ∷ rs)) ≡ put f list (lists_shown (r ∷ rs))
-list_behind f list r rs before ih =
+list_later f list r rs before ih =
     ap (λ b. lists_shown (cond b (worked_row (Some list) r ∷ rs) (r ∷ after_worked f (Some list) rs))) (apart_back r.path f before)
     ∙ ap (with_list r.path r.shown) ih
     ∙ by r.shown
@@ -362,4 +362,4 @@ list_behind f list r rs before ih =
 -- the list that was written takes the place of the one before
 pub lists-worked-some : (f : Path) (list : List Diag) (rows : List Row) → IsOrdered rows → HasRow f rows → lists_shown (after_worked f (Some list) rows) ≡ put f list (lists_shown rows)
 lists-worked-some f list [] order has = absurd has
-lists-worked-some f list (r ∷ rs) order has = ⊎_elim (list_here f list r rs order) (λ found. list_behind f list r rs found.0 (lists-worked-some f list rs order.1 found.1)) has
+lists-worked-some f list (r ∷ rs) order has = ⊎_elim (list_here f list r rs order) (λ found. list_later f list r rs found.0 (lists-worked-some f list rs order.1 found.1)) has

@@ -25,7 +25,7 @@ use Rattle.run_core.specs.Legal.{IsBegun}
 use Rattle.run_core.specs.Settled.{last_items, HasListSince, Settled}
 use Rattle.run_core.specs.Machine.{State, opening, project_of, IsShown, Permits, after_taken_edit, after_message, next, written}
 use Rattle.run_core.specs.Runs.{Leads, state_after, written_by, message_in, messages_in, Run, outs, last_state, Over}
-use Rattle.run_core.proofs.Messages.{last_items-append, last_items-answer, HasListSince-append, HasListSince-behind}
+use Rattle.run_core.proofs.Messages.{last_items-append, last_items-answer, HasListSince-append, HasListSince-after}
 use Rattle.run_core.proofs.Histories.{Fits, Quiet, told_fits, heard_all-append}
 use Rattle.run_core.proofs.Legality.{is_edited-append}
 use Rattle.run_core.proofs.Held.{Holds, Ready, may_work_parts, begun_at_work, list_written, farewell_written, opening_held, is_empty_nil}
@@ -345,7 +345,7 @@ module _ (language : Language) (laws : IsLanguage language) (base : Project) (h 
   since_work : (g : Path) → has g (without_path f s.owed) ≡ false → is_edited g h.edits ≡ true →
       HasListSince (uri_of h.session.documents.agreed g) (last_edit g h.edits) (os ++ out.List (uri_of h.session.documents.agreed f) n (items_of h.session f list) ∷ [])
   since_work g p i = ⊎_elim
-      (λ e. HasListSince-behind _ _ os _ (inl (ap (uri_of h.session.documents.agreed) (same_path g f e), (let c = held.counted in let l = last_edit_le g h.edits in omega arith))))
+      (λ e. HasListSince-after _ _ os _ (inl (ap (uri_of h.session.documents.agreed) (same_path g f e), (let c = held.counted in let l = last_edit_le g h.edits in omega arith))))
       (λ e. HasListSince-append _ _ os _ (right.since g e.1 i))
       (not_without g f s.owed p)
 

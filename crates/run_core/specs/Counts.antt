@@ -20,7 +20,7 @@ builds [] = 0
 builds (Build ∷ xs) = suc (builds xs)
 builds (x ∷ xs) = builds xs
 
--- for each build the files of the project at that build, together; the steps stand behind this history
+-- for each build the files of the project at that build, together; the steps stand after this history
 abbrev pub files_built : History → List Step → ℕ
 files_built h [] = 0
 files_built h (Take (Msg m) ∷ xs) = files_built (heard h m) xs
@@ -32,7 +32,7 @@ abbrev pub is_change : Language → History → Told → Bool
 is_change language h (Edited e opened) = if language.keeps h.session.documents.project e then false else true
 is_change language h t = false
 
--- how many of the messages are such edits; they stand behind this history
+-- how many of the messages are such edits; they stand after this history
 abbrev pub changes_in : Language → History → List Message → ℕ
 changes_in language h [] = 0
 changes_in language h (m ∷ ms) =

@@ -1,4 +1,4 @@
--- Which messages a server may write. Each may stand or not stand behind those written before it.
+-- Which messages a server may write. Each may stand or not stand after those written before it.
 use Rattle.std.specs.Prelude.{◌≡◌, ℕ, ◌≤◌, Bool, true, false, List, [], ◌∷◌, ◌++◌, length, Some, IsTrue, IsFalse, IsSome, ⊤}
 use Rattle.lsp_msg.specs.declared.id.Id.{Id}
 use Rattle.lsp_msg.specs.declared.msg.Msg.{Msg}
@@ -51,7 +51,7 @@ IsBegun Closing = ⊤
 abbrev pub MayAnswer : History → List Out → Out → Type 0
 MayAnswer h front x = Begins (answers_in front ++ x ∷ []) h.answers
 
--- The reply to `shutdown` stands once, where a `shutdown` was accepted, and behind the answers to all messages
+-- The reply to `shutdown` stands once, where a `shutdown` was accepted, and after the answers to all messages
 -- before that.
 pub record MayFarewell (h : History) (front : List Out) (id : Id) : Type 0 where
   pub shutdown : Shutdown
@@ -60,8 +60,8 @@ pub record MayFarewell (h : History) (front : List Out) (id : Id) : Type 0 where
   pub answered : Begins shutdown.answered (answers_in front)
   pub once : IsFalse (has_farewell front)
 
--- A list stands behind the reply to the accepted `initialize`, never behind that to `shutdown`, behind no list of
--- a greater epoch, and behind the answers to all messages before the edit that its epoch counts last. It
+-- A list stands after the reply to the accepted `initialize`, never after that to `shutdown`, after no list of
+-- a greater epoch, and after the answers to all messages before the edit that its epoch counts last. It
 -- has the URI of a path of the project at the start or of an edit, and its items are what a fresh check finds
 -- there after as many edits.
 pub record MayList (language : Language) (base : Project) (h : History) (front : List Out) (uri : List ℕ) (epoch : ℕ) (items : List Placed) : Type 0 where
@@ -76,7 +76,7 @@ pub record MayList (language : Language) (base : Project) (h : History) (front :
   pub named : uri ≡ uri_of h.session.documents.agreed path
   pub right : items ≡ list_of language h.session.documents.agreed (after base h.edits epoch) path
 
--- the message may stand behind these
+-- the message may stand after these
 abbrev pub MayStand : Language → Project → History → List Out → Out → Type 0
 MayStand language base h front (out.List uri epoch items) = MayList language base h front uri epoch items
 MayStand language base h front (out.Null id) = MayFarewell h front id
@@ -84,7 +84,7 @@ MayStand language base h front (out.Initialized id) = MayAnswer h front (out.Ini
 MayStand language base h front (out.Error id code) = MayAnswer h front (out.Error id code)
 MayStand language base h front (out.Log method reason) = MayAnswer h front (out.Log method reason)
 
--- each of the messages may stand behind these and those of the list before it
+-- each of the messages may stand after these and those of the list before it
 abbrev pub EachMayStand : Language → Project → History → List Out → List Out → Type 0
 EachMayStand language base h front [] = ⊤
 EachMayStand language base h front (x ∷ xs) =

@@ -19,7 +19,7 @@ NoWorkOn f [] = ⊤
 NoWorkOn f (Work g epoch list shown ∷ xs) = (f ≢ g) × NoWorkOn f xs
 NoWorkOn f (x ∷ xs) = NoWorkOn f xs
 
--- Behind this history, the steps take an edit of the path and don't work on it since.
+-- After this history, the steps take an edit of the path and don't work on it since.
 abbrev pub IsOwedBy : History → Path → List Step → Type 0
 IsOwedBy h f [] = ⊥
 IsOwedBy h f (Take (Msg m) ∷ xs) = (IsEditOf f (told h.session m) × NoWorkOn f xs) ⊎ IsOwedBy (heard h m) f xs
@@ -55,7 +55,7 @@ abbrev pub IsShutdown : Told → Type 0
 IsShutdown (Ended id) = ⊤
 IsShutdown t = ⊥
 
--- Behind this history, the steps take the accepted `shutdown` and don't reply to it since.
+-- After this history, the steps take the accepted `shutdown` and don't reply to it since.
 abbrev pub IsReplyOwedBy : History → List Step → Type 0
 IsReplyOwedBy h [] = ⊥
 IsReplyOwedBy h (Take (Msg m) ∷ xs) = (IsShutdown (told h.session m) × IsBusy xs) ⊎ IsReplyOwedBy (heard h m) xs
@@ -77,7 +77,7 @@ IsUpset language h (Began id agreed) = ⊤
 IsUpset language h (Edited e opened) = IsFalse (language.keeps h.session.documents.project e)
 IsUpset language h t = ⊥
 
--- Behind this history, the steps take such a message and don't build since.
+-- After this history, the steps take such a message and don't build since.
 abbrev pub IsStaleBy : Language → History → List Step → Type 0
 IsStaleBy language h [] = ⊥
 IsStaleBy language h (Take (Msg m) ∷ xs) =

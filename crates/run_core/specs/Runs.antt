@@ -55,7 +55,7 @@ pub record IsOver (s : State) : Type 0 where
 abbrev pub Over : Language → Project → List Step → Type 0
 Over language base steps = IsOver (last_state language base steps)
 
--- the project at the last build; the steps stand behind this history and a build of this project
+-- the project at the last build; the steps stand after this history and a build of this project
 abbrev pub built_last : History → Project → List Step → Project
 built_last h p [] = p
 built_last h p (Take (Msg m) ∷ xs) = built_last (heard h m) p xs

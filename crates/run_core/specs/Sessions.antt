@@ -53,7 +53,7 @@ when_waiting (BadParams method (Some id)) =
 when_waiting (Bad code id) = Failed id code
 when_waiting m = Nothing
 
--- the reason that a log message gives for a refusal; want of memory is no refusal
+-- the reason that a log message gives for a refusal; running out of memory is no refusal
 abbrev pub reason_of : DocEnd → Option Reason
 reason_of refused.Foreign = Some reason.NotInProject
 reason_of refused.Unknown = Some reason.NotOpen

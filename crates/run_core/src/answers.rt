@@ -111,7 +111,7 @@ pub fn closing_answer(msg: Msg) -> Option<Out>
     }
 }
 
-/// The reason that a log message gives for a refusal. Want of memory is none.
+/// The reason that a log message gives for a refusal. Running out of memory is none.
 pub fn reason_of(end: DocEnd) -> Option<Reason>
     ensures { result ≡ reason_of end }
 {

@@ -82,7 +82,7 @@ impl Core {
     }
 
     /// Takes the next input, and answers the message to be written, if there is one. After an error the core is as it
-    /// was. An edit past the greatest `u64` is refused as want of memory. Of an edit its own file is loaded at once; where it
+    /// was. An edit past the greatest `u64` is refused as if memory ran out. Of an edit its own file is loaded at once; where it
     /// declares the same as before, the symbol table stays.
     pub fn take(&mut self, alloc: Global, inp: Inp) -> Result<Option<Out>, NoMemory>
         requires { IsNone self.old.state.ended }

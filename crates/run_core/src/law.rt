@@ -35,10 +35,10 @@ pub fn every_run_that_is_over_is_settled()
     ensures { (language : Language) (base : Project) (steps : List Step) → IsLanguage language → IsProject base → Run language base steps → Over language base steps → IsBegun (history base (messages_in steps)).session.phase → Settled language base (messages_in steps) (outs language base steps) }
 {}
 
-/// What is legal so far is so in each part from its start, and stays so with more messages behind.
+/// What is legal so far is so in each part from its start, and stays so with more messages after.
 pub fn legality_lasts()
     ensures parts { (language : Language) (base : Project) (msgs : List Msg) (written more : List Out) → LegalSoFar language base msgs (written ++ more) → LegalSoFar language base msgs written }
-    ensures behind { (language : Language) (base : Project) (msgs more : List Msg) (written : List Out) → LegalSoFar language base msgs written → LegalSoFar language base (msgs ++ more) written }
+    ensures after { (language : Language) (base : Project) (msgs more : List Msg) (written : List Out) → LegalSoFar language base msgs written → LegalSoFar language base (msgs ++ more) written }
 {}
 
 /// The steps that work on a file are at most the edits plus, for each build, the files of the project at that build. The
@@ -50,20 +50,20 @@ pub fn work_is_bounded()
 
 /// A file that was edited and not worked on since goes before any other.
 pub fn owed_files_go_first()
-    ensures { (language : Language) (base : Project) (before behind : List Step) (f g : Path) (epoch : ℕ) (list : List Diag) (shown : Bool) → Run language base (before ++ Work g epoch list shown ∷ behind) → IsOwedBy (no_history base) f before → IsOwedBy (no_history base) g before }
+    ensures { (language : Language) (base : Project) (before after : List Step) (f g : Path) (epoch : ℕ) (list : List Diag) (shown : Bool) → Run language base (before ++ Work g epoch list shown ∷ after) → IsOwedBy (no_history base) f before → IsOwedBy (no_history base) g before }
 {}
 
 /// Before each step that works, builds or finds nothing left, the inbox was found empty and nothing was taken or worked
 /// on since, or the end of input was taken, or `shutdown` isn't answered yet.
 pub fn nothing_comes_without_a_look()
-    ensures { (language : Language) (base : Project) (before behind : List Step) (step : Step) → Run language base (before ++ step ∷ behind) → IsOwnStep step → CountsAsLooked (no_history base) before }
+    ensures { (language : Language) (base : Project) (before after : List Step) (step : Step) → Run language base (before ++ step ∷ after) → IsOwnStep step → CountsAsLooked (no_history base) before }
 {}
 
 /// The symbol table is built only where `initialize` or an edit that changes it was taken since the last build, and no
 /// file is worked on there.
 pub fn stale_tables_are_built_first()
-    ensures builds { (language : Language) (base : Project) (before behind : List Step) → Run language base (before ++ Build ∷ behind) → IsStaleBy language (no_history base) before }
-    ensures works { (language : Language) (base : Project) (before behind : List Step) (f : Path) (epoch : ℕ) (list : List Diag) (shown : Bool) → Run language base (before ++ Work f epoch list shown ∷ behind) → IsStaleBy language (no_history base) before → ⊥ }
+    ensures builds { (language : Language) (base : Project) (before after : List Step) → Run language base (before ++ Build ∷ after) → IsStaleBy language (no_history base) before }
+    ensures works { (language : Language) (base : Project) (before after : List Step) (f : Path) (epoch : ℕ) (list : List Diag) (shown : Bool) → Run language base (before ++ Work f epoch list shown ∷ after) → IsStaleBy language (no_history base) before → ⊥ }
 {}
 
 /// Where the errors of a file are those of its bytes under some facts of the project, and an edit that keeps leaves

@@ -8,7 +8,7 @@
 //!
 //! `Core` is that machine as code, over the errors that `srb_check` finds. A contract sees its state, and each of its calls
 //! that changes it makes one step: the word `Makes` says that the step is permitted, which state it leaves and what it
-//! writes. So the calls of a whole session are a `Run`, and the laws hold of what they wrote. After want of memory a core
+//! writes. So the calls of a whole session are a `Run`, and the laws hold of what they wrote. After memory ran out a core
 //! is as it was.
 #![tactic(auto)]
 

@@ -91,7 +91,7 @@ impl Gate {
         s.has_raised = true;
     }
 
-    /// Gives a new seat, which may draw half as many numbers as this one might, rounded down. At want of memory this seat is
+    /// Gives a new seat, which may draw half as many numbers as this one might, rounded down. When memory runs out this seat is
     /// as it was.
     pub fn split(&self, alloc: Global, s: &mut Seat) -> Result<Seat, NoMemory>
         requires gate { s.old.gate ≡ self.now }

@@ -94,7 +94,7 @@ impl<W: Right> Results<W> {
         self.queue.absorb::<Halves<W>>(&mut p.knowing, knowing);
     }
 
-    /// Puts `item` behind the items of the queue. A full queue gives it back, and `p` is as it was. It takes no memory.
+    /// Puts `item` after the items of the queue. A full queue gives it back, and `p` is as it was. It takes no memory.
     pub fn put<R: Wait>(&self, rt: &R, p: &mut ResPass<W>, item: Item) -> Result<(), Item>
         requires pass { p.old.queue ≡ self.now.name }
         requires right { IsRightBy W.right p.old.view item }

@@ -26,13 +26,13 @@ taken xs ys n is = ap (λ k. take k (xs ++ ys)) is ∙ front_is xs ys
 module _ {W : Type 0} (seen : W → Option (List Step)) (leaves : W → Step → Bool) (x : Step) (xs : List W) where
   -- The first `at` were told, and `kept` of them stay; from there on the list is as it was.
   pub record Sifts (ys : List W) (kept at : ℕ) : Type 0 where
-    pub behind : kept ≤ at
+    pub after : kept ≤ at
     pub long : length ys ≡ length xs
     pub rest : drop at ys ≡ drop at xs
     pub told : (zs : List W) → AreTold seen leaves x (drop at xs) zs → AreTold seen leaves x xs (take kept ys ++ zs)
 
   pub sifts_none : Sifts xs 0 0
-  sifts_none = record { behind = omega arith; long = refl; rest = refl; told = λ zs told. told }
+  sifts_none = record { after = omega arith; long = refl; rest = refl; told = λ zs told. told }
 
   pub sifts_all : (ys : List W) (kept at : ℕ) → Sifts ys kept at → length xs ≤ at → (zs : List W) → zs ≡ take kept ys → AreTold seen leaves x xs zs
   sifts_all ys kept at s le zs is =
@@ -48,18 +48,18 @@ module _ {W : Type 0} (seen : W → Option (List Step)) (leaves : W → Step →
     -- one that leaves
     sifts_gone : leaves w x ≡ true → Sifts (set ys at told) kept (suc at)
     sifts_gone gone = record {
-      behind = let b = s.behind in omega (arith, b);
+      after = let b = s.after in omega (arith, b);
       long = length-set ys at told ∙ s.long;
       rest = rest_is;
       told = λ zs are.
-          subst (λ l. AreTold seen leaves x xs (l ++ zs)) (sym (take-set-le kept ys at told s.behind))
+          subst (λ l. AreTold seen leaves x xs (l ++ zs)) (sym (take-set-le kept ys at told s.after))
           (s.told zs (subst (λ l. AreTold seen leaves x l zs) (sym here) (told, learns, zs, are, ap (λ b. if b then zs else told ∷ zs) (sym gone))));
     }
 
     -- one that stays
     sifts_kept : leaves w x ≡ false → Sifts (swap (set ys at told) kept at) (suc kept) (suc at)
     sifts_kept stays =
-        let b = s.behind in
+        let b = s.after in
         let told_in = set ys at told in
         let long = length-set ys at told in
         let low : kept < length told_in = omega (arith, b, long, lt) in
@@ -70,12 +70,12 @@ module _ {W : Type 0} (seen : W → Option (List Step)) (leaves : W → Step →
         let first = set told_in kept (get_or told_in at told) in
         let there : get_or after kept told ≡ told = (swapped_from_swap told_in after kept at told low high refl).0 ∙ get_or-set_same ys at told told lt in
         let front : take kept after ≡ take kept ys =
-        ap (take kept) (sym pieces) ∙ take-set-le kept first at (get_or told_in kept told) s.behind
-        ∙ take-set-le kept told_in kept (get_or told_in at told) (omega arith) ∙ take-set-le kept ys at told s.behind in
+        ap (take kept) (sym pieces) ∙ take-set-le kept first at (get_or told_in kept told) s.after
+        ∙ take-set-le kept told_in kept (get_or told_in at told) (omega arith) ∙ take-set-le kept ys at told s.after in
         let more : take (suc kept) after ≡ take kept ys ++ told ∷ [] =
         take-suc after kept told (omega (arith, same_long, low)) ∙ ap (λ l. l ++ get_or after kept told ∷ []) front ∙ ap (λ v. take kept ys ++ v ∷ []) there in
         record {
-          behind = omega (arith, b);
+          after = omega (arith, b);
           long = same_long ∙ long ∙ s.long;
           rest = ap (drop (suc at)) (sym pieces) ∙ drop-set-lt (suc at) first at (get_or told_in kept told) (omega arith)
               ∙ drop-set-lt (suc at) told_in kept (get_or told_in at told) (omega (arith, b)) ∙ rest_is;

@@ -48,9 +48,9 @@ fn stays(watcher: &mut Box<dyn Watcher + Send>, s: &Step) -> bool
     }
 }
 
-/// Moves the box at `at` behind the first `kept` where it stays, and answers how many are kept.
+/// Moves the box at `at` after the first `kept` where it stays, and answers how many are kept.
 fn settle<W>(boxes: &mut [W], kept: usize, at: usize, stays: bool) -> usize
-    requires behind { kept ≤ at }
+    requires after { kept ≤ at }
     requires there { at < length boxes.old }
     ensures boxes { boxes.new ≡ (if stays then swap boxes.old kept at else boxes.old) }
     ensures len { length boxes.new ≡ length boxes.old }

@@ -20,7 +20,7 @@ use Rattle.srb_text.proofs.LineLemmas.{AreLines-lines}
 use Rattle.srb_text.proofs.TransferLemmas.{take-encodes, start_in_rest, start_in_line, view_spells}
 use Rattle.srb_check.specs.declared.place.Place.{Place}
 use Rattle.srb_check.specs.Characters.{continues}
-use Rattle.srb_check.specs.Reports.{moved, place_behind, place_of, position_at, start}
+use Rattle.srb_check.specs.Reports.{moved, place_after, place_of, position_at, start}
 
 -- ---- characters, by the bytes that begin them
 
@@ -81,9 +81,9 @@ abbrev place_at : ℕ → ℕ → Pos
 place_at line unit = record { line = line; unit = unit }
 
 chosen : {A : Type 0} (at m n : ℕ) (p q r t : A) → m ≡ n → (at < n → p ≡ q) → (n ≤ at → r ≡ t) → (if nat_lt at m then p else r) ≡ (if nat_lt at n then q else t)
-chosen at m n p q r t e before behind =
+chosen at m n p q r t e before after =
     ⊎_elim (λ (lt : at < n). let yes_m : nat_lt at m ≡ true = lt-ltb at m (omega arith) in let yes_n : nat_lt at n ≡ true = lt-ltb at n lt in rw (yes_m, yes_n) (before lt))
-    (λ (ge : n ≤ at). let no_m : nat_lt at m ≡ false = le-ltb at m (omega arith) in let no_n : nat_lt at n ≡ false = le-ltb at n ge in rw (no_m, no_n) (behind ge))
+    (λ (ge : n ≤ at). let no_m : nat_lt at m ≡ false = le-ltb at m (omega arith) in let no_n : nat_lt at n ≡ false = le-ltb at n ge in rw (no_m, no_n) (after ge))
     (cases_lt at n)
 
 position-encodes : (ls : List Line) (text : List ℕ) (number at : ℕ) → AreLines text ls → IsStart text at → position_in one begins number at (map encoded ls) ≡ position_in len_utf8 one number at ls
@@ -102,7 +102,7 @@ position-bytes text bytes at e s =
     ∙ ap (position_in one begins 0 at) (lines-encodes text)
     ∙ position-encodes (lines text) text 0 at (AreLines-lines text) s
 
--- ---- the place behind some bytes is the position in them
+-- ---- the place after some bytes is the position in them
 
 -- the position of an offset from a column of the first of the lines on
 abbrev position_from : ℕ → ℕ → ℕ → List Line → Pos
@@ -151,9 +151,9 @@ start_place column number l [] h = first_place column number l.content
 start_place column number l (m ∷ ls) h = rw (lt-ltb 0 (line_size one l) h) (first_place column number l.content)
 
 chosen_next : {A : Type 0} (at m n : ℕ) (p q r t : A) → m ≡ suc n → (at < n → p ≡ q) → (n ≤ at → r ≡ t) → (if nat_lt (suc at) m then p else r) ≡ (if nat_lt at n then q else t)
-chosen_next at m n p q r t e before behind =
+chosen_next at m n p q r t e before after =
     ⊎_elim (λ (lt : at < n). let yes_m : nat_lt (suc at) m ≡ true = lt-ltb (suc at) m (omega arith) in let yes_n : nat_lt at n ≡ true = lt-ltb at n lt in rw (yes_m, yes_n) (before lt))
-    (λ (ge : n ≤ at). let no_m : nat_lt (suc at) m ≡ false = le-ltb (suc at) m (omega arith) in let no_n : nat_lt at n ≡ false = le-ltb at n ge in rw (no_m, no_n) (behind ge))
+    (λ (ge : n ≤ at). let no_m : nat_lt (suc at) m ≡ false = le-ltb (suc at) m (omega arith) in let no_n : nat_lt at n ≡ false = le-ltb at n ge in rw (no_m, no_n) (after ge))
     (cases_lt at n)
 
 one_more : (column at b : ℕ) (cs : List ℕ) → column + sum_by begins (fitting one (suc at) (b ∷ cs)) ≡ column + begins b + sum_by begins (fitting one at cs)
@@ -210,18 +210,18 @@ return-feed c rest e r = by_test (c == LINE_FEED) (c == CARRIAGE_RETURN) (begins
     by_test false true false e r = absurd cc
     by_test false false false e r = absurd cc
 
-place_behind-position : (bytes : List ℕ) (place : Place) (at : ℕ) → position_at (place_behind place at bytes) ≡ position_from place.column place.line at (lines bytes)
-place_behind-position [] place zero = sym (first_place place.column place.line [])
-place_behind-position [] place (suc at) = sym (first_place place.column place.line [])
-place_behind-position (b ∷ bs) place at = by_test (ends_line b bs) (b == CARRIAGE_RETURN) at refl refl (place_behind-position bs) (lines-some bs)
+place_after-position : (bytes : List ℕ) (place : Place) (at : ℕ) → position_at (place_after place at bytes) ≡ position_from place.column place.line at (lines bytes)
+place_after-position [] place zero = sym (first_place place.column place.line [])
+place_after-position [] place (suc at) = sym (first_place place.column place.line [])
+place_after-position (b ∷ bs) place at = by_test (ends_line b bs) (b == CARRIAGE_RETURN) at refl refl (place_after-position bs) (lines-some bs)
   where
     passed : (e r : Bool) → ends_line b bs ≡ e → (b == CARRIAGE_RETURN) ≡ r → moved place b bs ≡ (if e then record { line = place.line + 1; column = 0 } else (if r || continues b then place else record { line = place.line; column = place.column + 1 }))
     passed e r ended return = ap (λ v. if v then record { line = place.line + 1; column = 0 } else (if b == CARRIAGE_RETURN || continues b then place else record { line = place.line; column = place.column + 1 })) ended ∙ ap (λ v. if e then record { line = place.line + 1; column = 0 } else (if v || continues b then place else record { line = place.line; column = place.column + 1 })) return
 
-    by_test : (e r : Bool) (at : ℕ) → ends_line b bs ≡ e → (b == CARRIAGE_RETURN) ≡ r → ((p : Place) (k : ℕ) → position_at (place_behind p k bs) ≡ position_from p.column p.line k (lines bs)) → HasLines (lines bs) → position_at (place_behind place at (b ∷ bs)) ≡ position_from place.column place.line at (if e then record { content = []; ending = b ∷ [] } ∷ lines bs else (if r then with_ending b (lines bs) else with_content b (lines bs)))
+    by_test : (e r : Bool) (at : ℕ) → ends_line b bs ≡ e → (b == CARRIAGE_RETURN) ≡ r → ((p : Place) (k : ℕ) → position_at (place_after p k bs) ≡ position_from p.column p.line k (lines bs)) → HasLines (lines bs) → position_at (place_after place at (b ∷ bs)) ≡ position_from place.column place.line at (if e then record { content = []; ending = b ∷ [] } ∷ lines bs else (if r then with_ending b (lines bs) else with_content b (lines bs)))
     by_test true r zero ended return later some = sym (start_place place.column place.line (record { content = []; ending = b ∷ [] }) (lines bs) (omega arith))
     by_test true r (suc at) ended return later some =
-        ap (λ p. position_at (place_behind p at bs)) (passed true r ended return)
+        ap (λ p. position_at (place_after p at bs)) (passed true r ended return)
         ∙ later (record { line = place.line + 1; column = 0 }) at
         ∙ sym (pass_end place.column place.line at b (lines bs) some)
     by_test false true zero ended return later some =
@@ -230,7 +230,7 @@ place_behind-position (b ∷ bs) place at = by_test (ends_line b bs) (b == CARRI
         ∙ start_place place.column place.line (record { content = feed.0.content; ending = b ∷ feed.0.ending }) feed.1.0 (omega (arith, sum_by-cons one b feed.0.ending)))
     by_test false true (suc at) ended return later some =
         let feed = lines-feed bs (return-feed b bs ended return) in
-        ap (λ p. position_at (place_behind p at bs)) (passed false true ended return)
+        ap (λ p. position_at (place_after p at bs)) (passed false true ended return)
         ∙ later place at
         ∙ ap (position_from place.column place.line at) feed.1.1
         ∙ sym (pass_return place.column place.line at b feed.0 feed.1.0 feed.1.2)
@@ -239,7 +239,7 @@ place_behind-position (b ∷ bs) place at = by_test (ends_line b bs) (b == CARRI
         sym (ap (λ v. position_from place.column place.line 0 (with_content b v)) some.are
         ∙ start_place place.column place.line (record { content = b ∷ some.first.content; ending = some.first.ending }) some.more (omega (arith, sum_by-cons one b some.first.content)))
     by_test false false (suc at) ended return later some =
-        ap (λ p. position_at (place_behind p at bs)) (passed false false ended return ∙ same_column place (continues b))
+        ap (λ p. position_at (place_after p at bs)) (passed false false ended return ∙ same_column place (continues b))
         ∙ later (record { line = place.line; column = place.column + begins b }) at
         ∙ ap (position_from (place.column + begins b) place.line at) some.are
         ∙ sym (pass_content place.column place.line at b some.first some.more)
@@ -247,6 +247,6 @@ place_behind-position (b ∷ bs) place at = by_test (ends_line b bs) (b == CARRI
 
 pub place_of-position : (bytes : List ℕ) (at : ℕ) → IsUtf8 bytes → IsStart (chars bytes) at → position_at (place_of bytes at) ≡ position_of one (chars bytes) at
 place_of-position bytes at utf8 s =
-    place_behind-position bytes start at
+    place_after-position bytes start at
     ∙ position_from-start 0 at (lines bytes) (lines-some bytes)
     ∙ position-bytes (chars bytes) bytes at (view_spells bytes (chars bytes) utf8 refl).0 s

@@ -25,14 +25,14 @@ abbrev pub token_place : List Token → ℕ → ℕ → Span
 token_place [] size at = record { start = size; end = size }
 token_place (t ∷ ts) size at = if begins_at at t.span then t.span else token_place ts size at
 
--- the error of a text, given by its bytes, that has no tokens: at one character. No text lacks them for want of memory.
+-- the error of a text, given by its bytes, that has no tokens: at one character. No text lacks them because memory ran out.
 abbrev pub lex_error : List ℕ → LexEnd → Diag
 lex_error bytes (lex.Bad at) = syntax_error (character_at bytes at)
 lex_error bytes (lex.Outside at) = outside (character_at bytes at)
 lex_error bytes lex.NoMemory = syntax_error (character_at bytes 0)
 
 -- the error of tokens, in a text of so many bytes, that have no tree: at one of them, or at the text's end where more tokens would be
--- wanted. No tokens lack a tree for want of memory.
+-- wanted. No tokens lack a tree because memory ran out.
 abbrev pub parse_error : List Token → ℕ → ParseEnd → Diag
 parse_error tokens size (parse.Bad at) = syntax_error (token_place tokens size at)
 parse_error tokens size (parse.TooDeep at) = too_deep (token_place tokens size at)

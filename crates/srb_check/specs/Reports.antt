@@ -14,22 +14,22 @@ use Rattle.srb_check.specs.Symbols.{project_facts}
 abbrev pub start : Place
 start = record { line = 0; column = 0 }
 
--- the place behind one byte more, before `rest`: the next line's start behind a line's end, which is between the two
+-- the place after one byte more, before `rest`: the next line's start after a line's end, which is between the two
 -- bytes of `\r\n` where it was before them, and else one column further where the byte begins a character
 abbrev pub moved : Place → ℕ → List ℕ → Place
 moved place byte rest =
     if ends_line byte rest then record { line = place.line + 1; column = 0 }
     else (if byte == CARRIAGE_RETURN || continues byte then place else record { line = place.line; column = place.column + 1 })
 
--- the place behind a number of bytes, or behind all where there are fewer
-abbrev pub place_behind : Place → ℕ → List ℕ → Place
-place_behind place zero bytes = place
-place_behind place (suc n) [] = place
-place_behind place (suc n) (byte ∷ bytes) = place_behind (moved place byte bytes) n bytes
+-- the place after a number of bytes, or after all where there are fewer
+abbrev pub place_after : Place → ℕ → List ℕ → Place
+place_after place zero bytes = place
+place_after place (suc n) [] = place
+place_after place (suc n) (byte ∷ bytes) = place_after (moved place byte bytes) n bytes
 
 -- the place of an offset in a file
 abbrev pub place_of : List ℕ → ℕ → Place
-place_of bytes at = place_behind start at bytes
+place_of bytes at = place_after start at bytes
 
 -- a place as a position
 abbrev pub position_at : Place → Pos

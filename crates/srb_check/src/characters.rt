@@ -37,7 +37,7 @@ fn first_size(bytes: &[u8]) -> usize
     }
 }
 
-/// The bytes from an offset on, none where it lies behind the end.
+/// The bytes from an offset on, none where it lies after the end.
 fn from(bytes: &[u8], at: usize) -> &[u8]
     ensures { result.now ≡ drop at bytes.now }
 {

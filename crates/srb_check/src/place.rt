@@ -1,5 +1,5 @@
 ghost use Rattle.std.specs.Prelude.{◌≡◌, ◌+◌, ◌<◌, ◌≤◌, length, drop};
-ghost use Rattle.srb_check.specs.Reports.{moved, place_behind, place_of, start};
+ghost use Rattle.srb_check.specs.Reports.{moved, place_after, place_of, start};
 ghost use Rattle.srb_text.specs.Lines.{ends_line};
 
 use crate::characters::continues;
@@ -11,14 +11,14 @@ pub struct Place {
     pub column: usize,
 }
 
-/// Whether a line ends right behind the byte, before `rest`: never between the two bytes of one line's end.
+/// Whether a line ends right after the byte, before `rest`: never between the two bytes of one line's end.
 fn ends_line(byte: u8, rest: &[u8]) -> bool
     ensures { result ≡ ends_line byte rest.now }
 {
     byte == b'\n' || (byte == b'\r' && !rest.starts_with(b"\n"))
 }
 
-/// The place behind one byte more, before `rest`.
+/// The place after one byte more, before `rest`.
 fn moved(place: Place, byte: u8, rest: &[u8]) -> Place
     requires line { place.line < usize.MAX }
     requires column { place.column < usize.MAX }
@@ -60,7 +60,7 @@ pub fn start() -> Reached
 }
 
 /// The bytes from an offset on.
-fn behind(bytes: &[u8], at: usize) -> &[u8]
+fn after(bytes: &[u8], at: usize) -> &[u8]
     requires { at ≤ length bytes.now }
     ensures { result.now ≡ drop at bytes.now }
 {
@@ -76,12 +76,12 @@ fn place_from(bytes: &[u8], from: Reached, to: usize) -> Place
 {
     let mut place = from.place;
     for at in from.at..to {
-        place = moved(place, bytes[at], behind(bytes, at + 1));
+        place = moved(place, bytes[at], after(bytes, at + 1));
     }
     place
 }
 
-/// The offset reached so far, or the start where that one is behind `to`.
+/// The offset reached so far, or the start where that one is after `to`.
 fn reached_before(bytes: &[u8], reached: Reached, to: usize) -> Reached
     requires { reached.place ≡ place_of bytes.now reached.at }
     ensures known { result.place ≡ place_of bytes.now result.at }
@@ -90,7 +90,7 @@ fn reached_before(bytes: &[u8], reached: Reached, to: usize) -> Reached
     if to < reached.at { start() } else { reached }
 }
 
-/// The place of the offset `at`, which an offset behind the end shares with the end. Where `at` isn't before the offset
+/// The place of the offset `at`, which an offset after the end shares with the end. Where `at` isn't before the offset
 /// reached so far, only the bytes between them are read.
 pub fn reach(bytes: &[u8], reached: Reached, at: usize) -> Reached
     requires { reached.place ≡ place_of bytes.now reached.at }

@@ -162,7 +162,7 @@ fn summed(alloc: Global, count: usize) -> Result<Vec<u8>, AllocError> {
     Ok(source)
 }
 
-/// A text of so many bytes behind this front.
+/// A text of so many bytes after this front.
 fn padded(alloc: Global, front: &[u8], size: usize) -> Result<Vec<u8>, AllocError> {
     let mut source = front.to_vec(alloc)?;
     for _ in source.len()..size {
@@ -281,7 +281,7 @@ fn error_at(alloc: Global, start: u32) -> Result<Diag, AllocError> {
 }
 
 /// Offsets of a text with characters of one, two and four bytes and each kind of line end, and their lines and columns. The
-/// last ones are out of order and behind the end.
+/// last ones are out of order and after the end.
 const OFFSETS: [u32; 11] = [0, 2, 3, 4, 8, 9, 10, 11, 12, 2, 99];
 
 const REPORT: &str =

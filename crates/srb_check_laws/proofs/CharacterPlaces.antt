@@ -1,4 +1,4 @@
--- The characters of a text in its bytes: where one begins, the next begins behind it or the text ends.
+-- The characters of a text in its bytes: where one begins, the next begins after it or the text ends.
 use Rattle.std.proofs.Common.{◌≡◌, ℕ, ◌+◌, ◌<◌, ◌≤◌, ◌&&◌, Bool, true, false, nat_le, List, [], ◌∷◌, ◌++◌, length, drop, refl, sym, subst, ap, ◌∙◌, arith, append_assoc}
 use Rattle.std.specs.List.{AllByRecursion}
 use Rattle.std.specs.Char.{len_utf8}
@@ -63,12 +63,12 @@ text-start text = front-start text [] text 0 refl refl
 pub text-end : (text : List ℕ) → IsStart text (length (encode_utf8_all text))
 text-end text = ap byte_len (fitting_whole len_utf8 (length (encodes text)) text (omega (arith, length-encodes text))) ∙ sym (length-encodes text)
 
--- behind a character another begins, or the text ends
+-- after a character another begins, or the text ends
 pub character-end : (text : List ℕ) (at : ℕ) → IsStart text at → IsStart text (character_at (encode_utf8_all text) at).end
 character-end text at h =
     let rest : List ℕ = drop (length (fitting len_utf8 at text)) text in
-    let behind : first_size (drop at (encodes text)) ≡ first_size (encodes rest) = ap first_size (drop-encodes text at h) in
-    subst (λ n. IsStart text (at + n)) (sym behind) (by_rest rest (fitting_split len_utf8 at text))
+    let after : first_size (drop at (encodes text)) ≡ first_size (encodes rest) = ap first_size (drop-encodes text at h) in
+    subst (λ n. IsStart text (at + n)) (sym after) (by_rest rest (fitting_split len_utf8 at text))
   where
     by_rest : (rest : List ℕ) → fitting len_utf8 at text ++ rest ≡ text → IsStart text (at + first_size (encodes rest))
     by_rest [] e = let same : at ≡ at + 0 = omega arith in subst (IsStart text) same h

@@ -20,22 +20,22 @@ token-in_text text from (u ∷ tokens) stand t (inl e) = subst (λ (v : Token). 
 token-in_text text from (u ∷ tokens) stand t (inr h) = token-in_text text u.span.end tokens stand.4 t h
 
 -- a token ends no earlier than the tokens begin to stand
-token-behind : (text : List ℕ) (from : ℕ) (tokens : List Token) → StandInOrder text from tokens → (t : Token) → IsOneOf tokens t → from ≤ t.span.end
-token-behind text from [] stand t h = absurd h
-token-behind text from (u ∷ tokens) stand t (inl e) = subst (λ (v : Token). from ≤ v.span.end) (sym e) (omega (arith, stand.0, stand.1))
-token-behind text from (u ∷ tokens) stand t (inr h) = omega (arith, stand.0, stand.1, token-behind text u.span.end tokens stand.4 t h)
+token-after : (text : List ℕ) (from : ℕ) (tokens : List Token) → StandInOrder text from tokens → (t : Token) → IsOneOf tokens t → from ≤ t.span.end
+token-after text from [] stand t h = absurd h
+token-after text from (u ∷ tokens) stand t (inl e) = subst (λ (v : Token). from ≤ v.span.end) (sym e) (omega (arith, stand.0, stand.1))
+token-after text from (u ∷ tokens) stand t (inr h) = omega (arith, stand.0, stand.1, token-after text u.span.end tokens stand.4 t h)
 
--- a token or one behind it ends no earlier than the token starts
+-- a token or one after it ends no earlier than the token starts
 in_order : (text : List ℕ) (from : ℕ) (tokens : List Token) → StandInOrder text from tokens → (a b : Token) → AreInOrder tokens a b → a.span.start ≤ b.span.end
 in_order text from [] stand a b h = absurd h
-in_order text from (u ∷ tokens) stand a b (inl h) = subst (λ (v : Token). v.span.start ≤ b.span.end) (sym h.0) (at_or_behind h.1)
+in_order text from (u ∷ tokens) stand a b (inl h) = subst (λ (v : Token). v.span.start ≤ b.span.end) (sym h.0) (at_or_after h.1)
   where
-    at_or_behind : IsOneOf (u ∷ tokens) b → u.span.start ≤ b.span.end
-    at_or_behind (inl e) = subst (λ (v : Token). u.span.start ≤ v.span.end) (sym e) stand.1
-    at_or_behind (inr i) = omega (arith, stand.1, token-behind text u.span.end tokens stand.4 b i)
+    at_or_after : IsOneOf (u ∷ tokens) b → u.span.start ≤ b.span.end
+    at_or_after (inl e) = subst (λ (v : Token). u.span.start ≤ v.span.end) (sym e) stand.1
+    at_or_after (inr i) = omega (arith, stand.1, token-after text u.span.end tokens stand.4 b i)
 in_order text from (u ∷ tokens) stand a b (inr h) = in_order text u.span.end tokens stand.4 a b h
 
--- a place from a token's start to the end of that token or one behind it
+-- a place from a token's start to the end of that token or one after it
 pub placed-in_text : (text : List ℕ) (tokens : List Token) → StandInOrder text 0 tokens → (span : Span) → IsPlaced tokens span → InText text span
 placed-in_text text tokens stand span p = (
   subst (IsStart text) (sym p.starts) (token-in_text text 0 tokens stand p.first p.first_is).0,

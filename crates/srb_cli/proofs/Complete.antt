@@ -18,7 +18,7 @@ use Rattle.lsp_docs.specs.Projects.{Project, paths_of, total_bytes}
 use Rattle.run_watch.specs.declared.end_cause.EndCause.TheVariants as end
 use Rattle.srb_cli.specs.Course.{Course, Listing, NoFileFailed, NoReadFailed, NoWriteFailed}
 use Rattle.srb_cli.specs.Folders.{IsTold, AreTold, IsFolder, IsWithin, IsPastFiles, IsPastBytes, IsUnread}
-use Rattle.srb_cli.specs.Inputs.{has_exit, end_of, end_behind, cause_of, GoesOn}
+use Rattle.srb_cli.specs.Inputs.{has_exit, end_of, end_after, cause_of, GoesOn}
 use Rattle.srb_cli.specs.Served.{ServesWhole, has_failed, is_shut}
 use Rattle.srb_cli.specs.Inputs.{messages_of}
 use Rattle.srb_cli.specs.Ends.{EndsChecking, EndsServing, Checks, Serves, IsChecked, IsServed}
@@ -121,20 +121,20 @@ not_big told base path folder within past =
     let fits : total_bytes past.front + length past.bytes ≤ total_bytes base = up_to told past.front path past.bytes past.later base same past.read past.there folder.read in
     absurd (omega (arith, fits, past.past, within.bytes))
 
--- where nothing failed, a folder within the limits gives no project for want of memory alone
-unread : (told : List File) (base : Project) (cause : Cause) (before behind : ℕ) → IsFolder (Some told) base → IsWithin base → behind ≡ before
-    → IsUnread cause (Some told) before behind → cause ≡ NoMemory
-unread told base ReadFault before behind folder within same u = absurd (omega (arith, same, u))
-unread told base (TooMany n) before behind folder within same u = absurd (not_many told base n folder within u.0)
-unread told base (TooBig path) before behind folder within same u = absurd (not_big told base path folder within u.0)
-unread told base NoMemory before behind folder within same u = refl
-unread told base Done before behind folder within same u = absurd u
-unread told base Errors before behind folder within same u = absurd u
-unread told base NoShutdown before behind folder within same u = absurd u
-unread told base Usage before behind folder within same u = absurd u
-unread told base WriteFault before behind folder within same u = absurd u
-unread told base (Broken at) before behind folder within same u = absurd u
-unread told base (TooLong size) before behind folder within same u = absurd u
+-- where nothing failed, a folder within the limits gives no project because memory ran out alone
+unread : (told : List File) (base : Project) (cause : Cause) (before after : ℕ) → IsFolder (Some told) base → IsWithin base → after ≡ before
+    → IsUnread cause (Some told) before after → cause ≡ NoMemory
+unread told base ReadFault before after folder within same u = absurd (omega (arith, same, u))
+unread told base (TooMany n) before after folder within same u = absurd (not_many told base n folder within u.0)
+unread told base (TooBig path) before after folder within same u = absurd (not_big told base path folder within u.0)
+unread told base NoMemory before after folder within same u = refl
+unread told base Done before after folder within same u = absurd u
+unread told base Errors before after folder within same u = absurd u
+unread told base NoShutdown before after folder within same u = absurd u
+unread told base Usage before after folder within same u = absurd u
+unread told base WriteFault before after folder within same u = absurd u
+unread told base (Broken at) before after folder within same u = absurd u
+unread told base (TooLong size) before after folder within same u = absurd u
 
 -- ---- the end of a session
 
@@ -142,11 +142,11 @@ served_exit : (accepted : Bool) → IsServed (cause_of end.Exit accepted)
 served_exit true = tt
 served_exit false = tt
 
-served_behind : (ending : Ending) (accepted : Bool) → ending ≡ Closed → IsServed (cause_of (end_behind ending false) accepted)
-served_behind Closed accepted e = tt
-served_behind (Torn at) accepted e = absurd (let wrong : Torn at ≡ Closed = e in cc)
-served_behind (Malformed at) accepted e = absurd (let wrong : Malformed at ≡ Closed = e in cc)
-served_behind (PastLimit size) accepted e = absurd (let wrong : PastLimit size ≡ Closed = e in cc)
+served_after : (ending : Ending) (accepted : Bool) → ending ≡ Closed → IsServed (cause_of (end_after ending false) accepted)
+served_after Closed accepted e = tt
+served_after (Torn at) accepted e = absurd (let wrong : Torn at ≡ Closed = e in cc)
+served_after (Malformed at) accepted e = absurd (let wrong : Malformed at ≡ Closed = e in cc)
+served_after (PastLimit size) accepted e = absurd (let wrong : PastLimit size ≡ Closed = e in cc)
 
 -- the end of what was read is that of all bytes
 same_end : (read left : List ℕ) (ending : Ending) → (bodies_of read).end ≡ ending → (GoesOn (bodies_of read).end → left ≡ []) → (bodies_of (read ++ left)).end ≡ Closed → (bodies_of read).end ≡ Closed
@@ -169,22 +169,22 @@ served_end : (read left : List ℕ) (accepted : Bool)
     → IsServed (cause_of (end_of read false) accepted)
 served_end read left accepted to_end closed = by (has_exit (map decoded (bodies_of read).list)) refl
   where
-    by : (b : Bool) → has_exit (map decoded (bodies_of read).list) ≡ b → IsServed (cause_of (if b then end.Exit else end_behind (bodies_of read).end false) accepted)
+    by : (b : Bool) → has_exit (map decoded (bodies_of read).list) ≡ b → IsServed (cause_of (if b then end.Exit else end_after (bodies_of read).end false) accepted)
     by true is = served_exit accepted
-    by false is = served_behind (bodies_of read).end accepted (same_end read left (bodies_of read).end refl (to_end is) closed)
+    by false is = served_after (bodies_of read).end accepted (same_end read left (bodies_of read).end refl (to_end is) closed)
 
 not_failed : (a b : ℕ) → b ≡ a → nat_lt a b ≡ false
 not_failed a b same = grind (arith, nat_tests)
 
-whole_served : (base : Project) (cause : Cause) (c : Course) (bytes : List ℕ) (before behind : Option (List ℕ)) → c.left_before ≡ before → c.left_behind ≡ behind
+whole_served : (base : Project) (cause : Cause) (c : Course) (bytes : List ℕ) (before after : Option (List ℕ)) → c.left_before ≡ before → c.left_after ≡ after
     → before ≡ Some bytes → (bodies_of bytes).end ≡ Closed → NoReadFailed c → ServesWhole base cause c → IsServed cause
-whole_served base cause c bytes before behind is_before is_behind told closed unfailed w =
-    by behind (subst (λ o. Consumes o behind w.read) (is_before ∙ told) (subst (λ o. Consumes c.left_before o w.read) is_behind w.reads)) is_behind
+whole_served base cause c bytes before after is_before is_after told closed unfailed w =
+    by after (subst (λ o. Consumes o after w.read) (is_before ∙ told) (subst (λ o. Consumes c.left_before o w.read) is_after w.reads)) is_after
   where
-    by : (o : Option (List ℕ)) → Consumes (Some bytes) o w.read → c.left_behind ≡ o → IsServed cause
+    by : (o : Option (List ℕ)) → Consumes (Some bytes) o w.read → c.left_after ≡ o → IsServed cause
     by None gave is = absurd gave
     by (Some left) gave is =
-        let quiet : has_failed c ≡ false = not_failed c.reads_before c.reads_behind unfailed in
+        let quiet : has_failed c ≡ false = not_failed c.reads_before c.reads_after unfailed in
         let accepted = is_shut base (messages_of w.read) in
         let done = served_end w.read left accepted (λ none goes. subst IsAtEnd is (w.to_end none goes unfailed)) (ap (λ l. (bodies_of l).end) (sym gave) ∙ closed) in
         subst IsServed (sym (w.ended ∙ ap (λ f. cause_of (end_of w.read f) accepted) quiet)) done
@@ -194,9 +194,9 @@ serves : (base : Project) (cause : Cause) (c : Course) (bytes : List ℕ) → c.
 serves base Done c bytes told closed reads writes s = tt
 serves base NoShutdown c bytes told closed reads writes s = tt
 serves base NoMemory c bytes told closed reads writes s = tt
-serves base ReadFault c bytes told closed reads writes s = whole_served base ReadFault c bytes (Some bytes) c.left_behind told refl refl closed reads s
-serves base (Broken at) c bytes told closed reads writes s = whole_served base (Broken at) c bytes (Some bytes) c.left_behind told refl refl closed reads s
-serves base (TooLong size) c bytes told closed reads writes s = whole_served base (TooLong size) c bytes (Some bytes) c.left_behind told refl refl closed reads s
+serves base ReadFault c bytes told closed reads writes s = whole_served base ReadFault c bytes (Some bytes) c.left_after told refl refl closed reads s
+serves base (Broken at) c bytes told closed reads writes s = whole_served base (Broken at) c bytes (Some bytes) c.left_after told refl refl closed reads s
+serves base (TooLong size) c bytes told closed reads writes s = whole_served base (TooLong size) c bytes (Some bytes) c.left_after told refl refl closed reads s
 serves base WriteFault c bytes told closed reads writes s = absurd (omega (arith, writes, s.failed))
 serves base Errors c bytes told closed reads writes s = absurd s
 serves base Usage c bytes told closed reads writes s = absurd s
@@ -208,7 +208,7 @@ pub served_whole : (dir : List ℕ) (cause : Cause) (c : Course) (f : Listing) �
     → NoFileFailed f → NoReadFailed c → NoWriteFailed c → IsServed cause
 served_whole dir cause c f (inl before) files told base folder within bytes left closed listed reads writes =
     let none : cause ≡ NoMemory =
-    unread files base cause f.failed_before f.failed_behind folder within listed (subst (λ o. IsUnread cause o f.failed_before f.failed_behind) told before.1) in
+    unread files base cause f.failed_before f.failed_after folder within listed (subst (λ o. IsUnread cause o f.failed_before f.failed_after) told before.1) in
     subst IsServed (sym none) tt
 served_whole dir cause c f (inr (b, begun, s)) files told base folder within bytes left closed listed reads writes =
     serves b cause c bytes left closed reads writes s
@@ -232,6 +232,6 @@ pub checked_whole : (dir : List ℕ) (cause : Cause) (c : Course) (f : Listing) 
     → (base : Project) → IsFolder (Some files) base → IsWithin base → NoFileFailed f → NoWriteFailed c → IsChecked cause
 checked_whole dir cause c f (inl before) files told base folder within listed writes =
     let none : cause ≡ NoMemory =
-    unread files base cause f.failed_before f.failed_behind folder within listed (subst (λ o. IsUnread cause o f.failed_before f.failed_behind) told before.1) in
+    unread files base cause f.failed_before f.failed_after folder within listed (subst (λ o. IsUnread cause o f.failed_before f.failed_after) told before.1) in
     subst IsChecked (sym none) tt
 checked_whole dir cause c f (inr (b, given, nothing, s)) files told base folder within listed writes = checked b cause c writes s

@@ -1,4 +1,4 @@
--- What steps did, one call behind the other.
+-- What steps did, one call after the other.
 use Rattle.std.proofs.Common.{◌≡◌, inl, inr, ℕ, List, [], ◌∷◌, ◌++◌, take, map, None, Some, Result, Ok, Err, refl, sym, ap, ◌∙◌, subst, append_assoc, append-nil}
 use Rattle.std.specs.Prelude.{Option, MatchResult}
 use Rattle.std.proofs.lemmas.List.{map-append}
@@ -82,7 +82,7 @@ did_step s new x out h h' permitted made is told appends = record {
   writes = subst (λ o. Appends h.held h'.held (written_as o)) (sym (append-nil (listed (written s x)) ∙ ap listed (sym is))) appends;
 }
 
--- no step for want of memory
+-- no step because memory ran out
 pub no_step : (s : State) (is : List Inp) (h h' : Kept) → h'.told ≡ h.told → h'.held ≡ h.held → DidFront s is h h'
 no_step s is h h' told held = record {
   steps = [];
@@ -106,7 +106,7 @@ goes_quietly (Ok done) s new x t t' permitted made quiet none told = λ held.
 goes_quietly (Err e) s new x t t' permitted made quiet none told = λ held.
     no_step s [] (record { held = held; told = t }) (record { held = held; told = t' }) told refl
 
--- ---- one behind the other
+-- ---- one after the other
 
 pub did_then : (s t u : State) (is js : List Inp) (h h' h'' : Kept) → Did s is t h h' → Did t js u h' h'' → Did s (is ++ js) u h h''
 did_then s t u is js h h' h'' d e =
@@ -173,7 +173,7 @@ did_then_front s t is js h h' h'' d e =
 
 -- ---- calls
 
--- a call behind what was done before
+-- a call after what was done before
 pub works_then : {T : Type 0} (r : Result T WriteEnd) (s t u : State) (is js : List Inp) (h h' h'' : Kept) (f f' f'' : ℕ)
     → Did s is t h h' → f' ≡ f → Works r t js u h' h'' f' f'' → Works r s (is ++ js) u h h'' f f''
 works_then (Ok done) s t u is js h h' h'' f f' f'' d same w = (did_then s t u is js h h' h'' d w.0, w.1 ∙ same)
@@ -181,7 +181,7 @@ works_then (Err Fault) s t u is js h h' h'' f f' f'' d same w =
     (did_then_part s t is js h h' h'' d w.0, subst (λ k. HasRisen k f'') same w.1)
 works_then (Err NoMemory) s t u is js h h' h'' f f' f'' d same w = (did_then_front s t is js h h' h'' d w.0, w.1 ∙ same)
 
--- a step of which the trace took note, and of which nothing was written for want of memory
+-- a step of which the trace took note, and of which nothing was written because memory ran out
 pub front_step : (s : State) (x : Step) (h h' : Kept) → Permits checked_language s x → h'.told ≡ with_steps h.told (x ∷ []) → Keeps h.held h'.held
     → DidFront s (input_in x) h h'
 front_step s x h h' permitted told keeps = record {

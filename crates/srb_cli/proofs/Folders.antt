@@ -10,8 +10,8 @@ use Rattle.std.specs.declared.cmp.Ordering.TheVariants.{Less}
 use Rattle.std.proofs.lemmas.List.{length-map}
 use Rattle.std.proofs.lemmas.List.Sums.{sum_by-append}
 use Rattle.srb_io.specs.Files.{File, IsBeforeEach, AreInOrder, AreListed}
-use Rattle.srb_terms.specs.Projects.{IsBeforeAll, IsBehindAll, IsProject, path_cmp, put_file}
-use Rattle.srb_terms.proofs.ProjectOrder.{put_file-behind}
+use Rattle.srb_terms.specs.Projects.{IsBeforeAll, IsAfterAll, IsProject, path_cmp, put_file}
+use Rattle.srb_terms.proofs.ProjectOrder.{put_file-after}
 use Rattle.lsp_docs.specs.Projects.{paths_of, total_bytes}
 use Rattle.srb_terms.specs.declared.cause.Cause.{Cause}
 use Rattle.srb_terms.specs.declared.cause.Cause.TheVariants.{Done, Errors, NoShutdown, Usage, ReadFault, WriteFault, Broken, TooLong, TooMany, TooBig, NoMemory}
@@ -27,15 +27,15 @@ pub project_in_order : (files : List File) → AreInOrder (paths_of files) → I
 project_in_order [] ordered = tt
 project_in_order (file ∷ files) ordered = (before_all file.0 files ordered.0, project_in_order files ordered.1)
 
--- a path that stands behind some files in the order
+-- a path that stands after some files in the order
 before_one : (p q : List ℕ) (xs ys : List (List ℕ)) → IsBeforeEach p (xs ++ q ∷ ys) → path_cmp p q ≡ Less
 before_one p q [] ys each = each.0
 before_one p q (x ∷ xs) ys each = before_one p q xs ys each.1
 
-pub behind_all : (path : List ℕ) (files : List File) (later : List (List ℕ)) → AreInOrder (paths_of files ++ path ∷ later) → IsBehindAll path files
-behind_all path [] later ordered = tt
-behind_all path (file ∷ files) later ordered =
-    (nat_list_cmp_total.antisymm path file.0 ∙ ap ordering_reverse (before_one file.0 path (paths_of files) later ordered.0), behind_all path files later ordered.1)
+pub after_all : (path : List ℕ) (files : List File) (later : List (List ℕ)) → AreInOrder (paths_of files ++ path ∷ later) → IsAfterAll path files
+after_all path [] later ordered = tt
+after_all path (file ∷ files) later ordered =
+    (nat_list_cmp_total.antisymm path file.0 ∙ ap ordering_reverse (before_one file.0 path (paths_of files) later ordered.0), after_all path files later ordered.1)
 
 append_none : (files : List File) → files ++ [] ≡ files
 append_none [] = refl
@@ -44,7 +44,7 @@ append_none (file ∷ files) = ap (λ rest. file ∷ rest) (append_none files)
 pub put_at_end : (path bytes : List ℕ) (files : List File) (later : List (List ℕ)) → AreInOrder (paths_of files ++ path ∷ later)
     → put_file path bytes files ≡ files ++ (path, bytes) ∷ []
 put_at_end path bytes files later ordered =
-    ap (put_file path bytes) (sym (append_none files)) ∙ put_file-behind path bytes files [] (behind_all path files later ordered)
+    ap (put_file path bytes) (sym (append_none files)) ∙ put_file-after path bytes files [] (after_all path files later ordered)
 
 pub paths_of-append : (xs ys : List File) → paths_of (xs ++ ys) ≡ paths_of xs ++ paths_of ys
 paths_of-append [] ys = refl
@@ -61,9 +61,9 @@ AreTold-append told (x ∷ xs) ys p q = (p.0, AreTold-append told xs ys p.1 q)
 pub total_bytes-append : (xs ys : List File) → total_bytes (xs ++ ys) ≡ total_bytes xs + total_bytes ys
 total_bytes-append xs ys = sum_by-append (λ (file : File). length file.1) xs ys
 
--- ---- one file behind the other
+-- ---- one file after the other
 
--- The paths of the files that were read, and behind them the paths that are left, are those that were listed; the files that
+-- The paths of the files that were read, and after them the paths that are left, are those that were listed; the files that
 -- were read are told, and this room is left.
 pub record IsReadTo (told : Option (List File)) (paths : List (List ℕ)) (files : List File) (left : List (List ℕ)) (room : ℕ) : Type 0 where
   pub split : paths_of files ++ left ≡ paths
@@ -116,11 +116,11 @@ read_within told paths files left room few none so_far =
     record { files = omega (arith, count, few); bytes = omega (arith, size) }
 
 -- reading stops at a file
-pub stopped : (cause : Cause) (told : Option (List File)) (paths : List (List ℕ)) (files : List File) (path : List ℕ) (left later : List (List ℕ)) (room before same behind : ℕ)
+pub stopped : (cause : Cause) (told : Option (List File)) (paths : List (List ℕ)) (files : List File) (path : List ℕ) (left later : List (List ℕ)) (room before same after : ℕ)
     → AreInOrder paths → AreListed told paths → length paths ≤ 4096 → left ≡ path ∷ later → IsReadTo told paths files left room → same ≡ before
-    → IsFileUnread cause told path room same behind → IsUnread cause told before behind
-stopped ReadFault told paths files path left later room before same behind ordered listed few next so_far is u = omega (arith, is, u)
-stopped (TooBig name) told paths files path left later room before same behind ordered listed few next so_far is u =
+    → IsFileUnread cause told path room same after → IsUnread cause told before after
+stopped ReadFault told paths files path left later room before same after ordered listed few next so_far is u = omega (arith, is, u)
+stopped (TooBig name) told paths files path left later room before same after ordered listed few next so_far is u =
     let here : paths_of files ++ path ∷ later ≡ paths = ap (λ l. paths_of files ++ l) (sym next) ∙ so_far.split in
     let size = so_far.whole in
     let past : room < length u.1.0 = u.1.2 in
@@ -137,15 +137,15 @@ stopped (TooBig name) told paths files path left later room before same behind o
       past = omega (arith, size, past);
     } in
     (subst (IsPastBytes told) (sym u.0) big, u.2 ∙ is)
-stopped NoMemory told paths files path left later room before same behind ordered listed few next so_far is u = u ∙ is
-stopped Done told paths files path left later room before same behind ordered listed few next so_far is u = absurd u
-stopped Errors told paths files path left later room before same behind ordered listed few next so_far is u = absurd u
-stopped NoShutdown told paths files path left later room before same behind ordered listed few next so_far is u = absurd u
-stopped Usage told paths files path left later room before same behind ordered listed few next so_far is u = absurd u
-stopped WriteFault told paths files path left later room before same behind ordered listed few next so_far is u = absurd u
-stopped (Broken at) told paths files path left later room before same behind ordered listed few next so_far is u = absurd u
-stopped (TooLong size) told paths files path left later room before same behind ordered listed few next so_far is u = absurd u
-stopped (TooMany count) told paths files path left later room before same behind ordered listed few next so_far is u = absurd u
+stopped NoMemory told paths files path left later room before same after ordered listed few next so_far is u = u ∙ is
+stopped Done told paths files path left later room before same after ordered listed few next so_far is u = absurd u
+stopped Errors told paths files path left later room before same after ordered listed few next so_far is u = absurd u
+stopped NoShutdown told paths files path left later room before same after ordered listed few next so_far is u = absurd u
+stopped Usage told paths files path left later room before same after ordered listed few next so_far is u = absurd u
+stopped WriteFault told paths files path left later room before same after ordered listed few next so_far is u = absurd u
+stopped (Broken at) told paths files path left later room before same after ordered listed few next so_far is u = absurd u
+stopped (TooLong size) told paths files path left later room before same after ordered listed few next so_far is u = absurd u
+stopped (TooMany count) told paths files path left later room before same after ordered listed few next so_far is u = absurd u
 
 -- the next path of those that are left
 pub next_path : {Z : Type 0} (paths : List (String Z)) (i : ℕ) (path : String Z) (text : List ℕ) → i < length paths → path ≡ get_or paths i path → text ≡ string_bytes path

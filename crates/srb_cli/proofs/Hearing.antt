@@ -7,7 +7,7 @@ use Rattle.std.proofs.KnownBytes.{Consumes-trans}
 use Rattle.std.specs.Io.KnownBytes.{Consumes, IsAtEnd}
 use Rattle.lsp_frame.specs.declared.first.First.TheVariants.{More}
 use Rattle.lsp_frame.specs.First.{first_of}
-use Rattle.lsp_frame.specs.Bodies.{Bodies, Ending, bodies_of, bodies_at, with_bodies, ends, behind, IsReadTo}
+use Rattle.lsp_frame.specs.Bodies.{Bodies, Ending, bodies_of, bodies_at, with_bodies, ends, place_after, IsReadTo}
 use Rattle.lsp_frame.specs.Bodies.Ending.{Closed, Torn, Malformed, PastLimit}
 use Rattle.lsp_frame.specs.Stream.{Stream, Reads, Breaks, Gives, IsNext}
 use Rattle.lsp_frame.specs.declared.reading.Input.{Input}
@@ -21,7 +21,7 @@ use Rattle.lsp_msg.specs.declared.msg.Msg.{Msg as Message}
 use Rattle.lsp_msg.specs.declared.msg.Msg.TheVariants.{Exit}
 use Rattle.run_watch.specs.declared.end_cause.EndCause.{EndCause}
 use Rattle.run_watch.specs.declared.end_cause.EndCause.TheVariants as end
-use Rattle.srb_cli.specs.Inputs.{up_to_exit, has_exit, end_behind, GoesOn}
+use Rattle.srb_cli.specs.Inputs.{up_to_exit, has_exit, end_after, GoesOn}
 use Rattle.srb_cli.specs.Talks.{end_for, is_exit, ExitsLast, Heard, HeardAll, HeardFront}
 
 -- ---- up to the first `exit`
@@ -39,7 +39,7 @@ has_exit-append (m ∷ ms) more = has_exit-append ms more
 none_and : (ms more : List Message) → has_exit ms ≡ false → has_exit (ms ++ more) ≡ has_exit more
 none_and ms more none = has_exit-append ms more ∙ ap (λ b. b || has_exit more) none
 
--- where `exit` is the last message nothing behind it counts
+-- where `exit` is the last message nothing after it counts
 up_to_exit-last : (ms more : List Message) → ExitsLast true ms → up_to_exit (ms ++ more) ≡ ms
 up_to_exit-last ms more (front, is, none) =
     ap (λ k. up_to_exit (k ++ more)) is ∙ ap up_to_exit (append_assoc front (Exit ∷ []) more) ∙ up_to_exit-none front (Exit ∷ more) none ∙ sym is
@@ -113,7 +113,7 @@ module _ (left_before left left' : Option (List ℕ)) (faults_before faults faul
 
   -- no body more: the bytes end so
   all_heard : (all : List ℕ) (ending : Ending) (e : EndCause) → Reads left left' old.pending all → exited ≡ false → bodies_at old.at all ≡ ends ending
-      → e ≡ end_behind ending (nat_lt faults_before faults') → (GoesOn ending → faults' ≡ faults_before → IsAtEnd left')
+      → e ≡ end_after ending (nat_lt faults_before faults') → (GoesOn ending → faults' ≡ faults_before → IsAtEnd left')
       → HeardAll left_before left' faults_before faults' ms e
   all_heard all ending e reads going is_end is to_end =
       let more = reads.0 in
@@ -129,7 +129,7 @@ module _ (left_before left left' : Option (List ℕ)) (faults_before faults faul
         read = heard.read ++ more;
         gave = Consumes-trans left_before left left' heard.read more heard.gave reads.1;
         same = ap up_to_exit listed ∙ up_to_exit-none ms [] none ∙ append-nil ms;
-        ended = is ∙ ap (λ k. end_behind k failed) (sym same_end) ∙ ap (λ b. if b then end.Exit else end_behind (bodies_of (heard.read ++ more)).end failed) (sym no_exit);
+        ended = is ∙ ap (λ k. end_after k failed) (sym same_end) ∙ ap (λ b. if b then end.Exit else end_after (bodies_of (heard.read ++ more)).end failed) (sym no_exit);
         to_end = λ _ goes same. to_end (subst GoesOn same_end goes) same;
       }
 
@@ -146,7 +146,7 @@ module _ (left_before left left' : Option (List ℕ)) (faults_before faults faul
         read = heard.read;
         gave = subst (λ l. Consumes left_before l heard.read) (sym same_left) heard.gave;
         same = ap up_to_exit listed ∙ up_to_exit-last ms (map decoded later.list) exits;
-        ended = ap (λ b. if b then end.Exit else end_behind (bodies_of heard.read).end (nat_lt faults_before faults')) (sym an_exit);
+        ended = ap (λ b. if b then end.Exit else end_after (bodies_of heard.read).end (nat_lt faults_before faults')) (sym an_exit);
         to_end = λ none goes same. absurd (let wrong : true ≡ false = sym an_exit ∙ none in cc);
       }
 
@@ -199,7 +199,7 @@ module _ (left_before left left' : Option (List ℕ)) (faults_before faults faul
       all_heard [] Closed end.Fault reads going refl (ap (λ b. if b then end.Fault else end.Closed) (sym (has_failed more)))
       (λ _ same. absurd (more_faults more same))
   fault_heard (b ∷ rest) reads going first more =
-      let place = behind old.at (length (b ∷ rest)) in
+      let place = place_after old.at (length (b ∷ rest)) in
       all_heard (b ∷ rest) (Torn place) end.Fault reads going (bodies_at-torn old.at (b ∷ rest) first (omega arith))
       (ap (λ b. if b then end.Fault else end.Broken place) (sym (has_failed more))) (λ _ same. absurd (more_faults more same))
 

@@ -39,7 +39,7 @@ pub takes : {T : Type 0} (r : Result T WriteEnd) (s new : State) (inp : Inp) (ou
     → Makes s new (Take inp) out → h'.told ≡ with_steps h.told (Take inp ∷ []) → Says r out h.held h'.held f f' → Works r s (inp ∷ []) new h h' f f'
 takes r s new inp out h h' f f' makes told says = works_saying r s new (Take inp) out h h' f f' makes.permitted makes.made makes.answered told says
 
--- the trace took note of an input that wasn't taken for want of memory
+-- the trace took note of an input that wasn't taken because memory ran out
 pub not_taken : (s : State) (inp : Inp) (held : Option (List ℕ)) (t t' : Option (List Step)) → is_some s.ended ≡ false → t' ≡ with_steps t (Take inp ∷ [])
     → DidFront s (inp ∷ []) (record { held = held; told = t }) (record { held = held; told = t' })
 not_taken s inp held t t' unended told =
@@ -103,7 +103,7 @@ settled s t new out makes rest same = record {
   ended = ap (λ (u : State). u.ended) makes.made ∙ same;
 }
 
--- ---- a call that takes no input, behind what was done before
+-- ---- a call that takes no input, after what was done before
 
 pub then_quiet : {T : Type 0} (r : Result T WriteEnd) (s t u : State) (is : List Inp) (h h' h'' : Kept) (f f' f'' : ℕ)
     → Did s is t h h' → f' ≡ f → Works r t [] u h' h'' f' f'' → Works r s is u h h'' f f''

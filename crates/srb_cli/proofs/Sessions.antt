@@ -34,7 +34,7 @@ use Rattle.run_core.proofs.Legality.{legal_part, legal_stays}
 use Rattle.run_core.proofs.Runs.{run_held, run_is_legal, run_is_legal_so_far}
 use Rattle.run_core.proofs.Shown.{run_is_settled}
 use Rattle.srb_cli.specs.Course.{Course, NoWriteFailed, AWriteFailed}
-use Rattle.srb_cli.specs.Inputs.{messages_of, has_exit, end_of, end_behind, cause_of}
+use Rattle.srb_cli.specs.Inputs.{messages_of, has_exit, end_of, end_after, cause_of}
 use Rattle.run_core.specs.Cores.{checked_language, is_closing, ended_by, end_of as end_taken}
 use Rattle.srb_cli.specs.Served.{is_shut, has_failed, ServesWhole, ServesPart, ServesFront}
 use Rattle.srb_cli.specs.Recorded.{Tracing, ServesRecorded, RecordsWhole, RecordsPart, RecordsFront, inputs_in, inputs_of}
@@ -104,8 +104,8 @@ all_inputs left_before left before now ms e heard =
 abbrev pub before : Course → Tracing → Kept
 before c t = record { held = c.held_before; told = t.told_before }
 
-abbrev pub behind : Course → Tracing → Kept
-behind c t = record { held = c.held_behind; told = t.told_behind }
+abbrev pub after : Course → Tracing → Kept
+after c t = record { held = c.held_after; told = t.told_after }
 
 pub closing_is_shut : (base : Project) (ms : List Message) (t : State) (is : List Inp) (h h' : Kept) → Did (opening base) is t h h' → heard_among is ≡ ms
     → is_closing t.session.phase ≡ is_shut base ms
@@ -124,17 +124,17 @@ module _ (base : Project) (c : Course) (t : Tracing) where
       ap (λ k. k ++ heard_among later) (messages_among steps) ∙ sym (heard_among-append (inputs_in steps) later) ∙ sym (ap heard_among took) ∙ heard_of read (has_failed c)
 
   served_whole : (cause : Cause) (ms : List Message) (s : State) (e : EndCause) → IsProject base
-      → HeardAll c.left_before c.left_behind c.reads_before c.reads_behind ms e → Did (opening base) (map Msg ms ++ End e ∷ []) s (before c t) (behind c t) → IsOver s
+      → HeardAll c.left_before c.left_after c.reads_before c.reads_after ms e → Did (opening base) (map Msg ms ++ End e ∷ []) s (before c t) (after c t) → IsOver s
       → NoWriteFailed c → cause ≡ cause_of e (is_closing s.session.phase) → ServesWhole base cause c × RecordsWhole base c t
   served_whole cause ms s e ordered heard did over unfailed is =
       let l = checked_language in
       let written = outs l base did.steps in
       let done : Over l base did.steps = subst IsOver did.there over in
-      let all = all_inputs c.left_before c.left_behind c.reads_before c.reads_behind ms e heard in
+      let all = all_inputs c.left_before c.left_after c.reads_before c.reads_after ms e heard in
       let took : inputs_in did.steps ≡ inputs_of heard.read (has_failed c) = did.took ∙ all in
       let same : messages_in did.steps ≡ messages_of heard.read = messages_among did.steps ∙ ap heard_among took ∙ heard_of heard.read (has_failed c) in
       let listed : heard_among (map Msg ms ++ End e ∷ []) ≡ messages_of heard.read = ap heard_among all ∙ heard_of heard.read (has_failed c) in
-      let shut = closing_is_shut base (messages_of heard.read) s (map Msg ms ++ End e ∷ []) (before c t) (behind c t) did listed in (
+      let shut = closing_is_shut base (messages_of heard.read) s (map Msg ms ++ End e ∷ []) (before c t) (after c t) did listed in (
         record {
           read = heard.read;
           outs = written;
@@ -159,7 +159,7 @@ module _ (base : Project) (c : Course) (t : Tracing) where
         },
       )
 
-  served_part : (is : List Inp) → Begins c.left_before c.left_behind c.reads_before c.reads_behind is → DidPart (opening base) is (before c t) (behind c t)
+  served_part : (is : List Inp) → Begins c.left_before c.left_after c.reads_before c.reads_after is → DidPart (opening base) is (before c t) (after c t)
       → AWriteFailed c → ServesPart base c × RecordsPart base c t
   served_part is heard did failed =
       let l = checked_language in
@@ -194,7 +194,7 @@ module _ (base : Project) (c : Course) (t : Tracing) where
         },
       )
 
-  served_front : (is : List Inp) → Begins c.left_before c.left_behind c.reads_before c.reads_behind is → DidFront (opening base) is (before c t) (behind c t)
+  served_front : (is : List Inp) → Begins c.left_before c.left_after c.reads_before c.reads_after is → DidFront (opening base) is (before c t) (after c t)
       → NoWriteFailed c → ServesFront base c × RecordsFront base c t
   served_front is heard did unfailed =
       let l = checked_language in
@@ -231,28 +231,28 @@ module _ (base : Project) (c : Course) (t : Tracing) where
 
 pub served_nothing : (base : Project) (left held : Option (List ℕ)) (reads writes : ℕ) (told : Option (List Step)) → ServesRecorded base cause.NoMemory (record {
   left_before = left;
-  left_behind = left;
+  left_after = left;
   held_before = held;
-  held_behind = held;
+  held_after = held;
   reads_before = reads;
-  reads_behind = reads;
+  reads_after = reads;
   writes_before = writes;
-  writes_behind = writes;
-}) (record { told_before = told; told_behind = told })
+  writes_after = writes;
+}) (record { told_before = told; told_after = told })
 served_nothing base left held reads writes told =
     let c : Course = record {
       left_before = left;
-      left_behind = left;
+      left_after = left;
       held_before = held;
-      held_behind = held;
+      held_after = held;
       reads_before = reads;
-      reads_behind = reads;
+      reads_after = reads;
       writes_before = writes;
-      writes_behind = writes;
+      writes_after = writes;
     } in
-    let t : Tracing = record { told_before = told; told_behind = told } in
+    let t : Tracing = record { told_before = told; told_after = told } in
     served_front base c t [] (record { read = []; more = inputs_of [] (nat_lt reads reads); gave = Consumes-nil left; same = refl })
-    (no_step (opening base) [] (before c t) (behind c t) refl refl) refl
+    (no_step (opening base) [] (before c t) (after c t) refl refl) refl
 
 pub starts : (base : Project) (left held : Option (List ℕ)) (reads : ℕ) (told : Option (List Step)) (stream : Stream) (state : State) → stream.pending ≡ [] → stream.at ≡ 0 → stream.ended ≡ None
     → state ≡ opening base → IsUnderWay base left left reads reads stream false state (record { held = held; told = told }) (record { held = held; told = told })
@@ -268,11 +268,11 @@ starts base left held reads told stream state pending at going opens =
 -- ---- the next input
 
 -- where the next input is lost
-pub lost : (base : Project) (c : Course) (t : Tracing) (ms : List Message) (s : State) → HeardFront c.left_before c.left_behind ms
-    → Did (opening base) (map Msg ms) s (before c t) (behind c t) → NoWriteFailed c → ServesRecorded base cause.NoMemory c t
+pub lost : (base : Project) (c : Course) (t : Tracing) (ms : List Message) (s : State) → HeardFront c.left_before c.left_after ms
+    → Did (opening base) (map Msg ms) s (before c t) (after c t) → NoWriteFailed c → ServesRecorded base cause.NoMemory c t
 lost base c t ms s heard did unfailed =
-    served_front base c t (map Msg ms) (begins_with c.left_before c.left_behind c.reads_before c.reads_behind ms heard)
-    (then_no_step (opening base) s (map Msg ms) (before c t) (behind c t) did) unfailed
+    served_front base c t (map Msg ms) (begins_with c.left_before c.left_after c.reads_before c.reads_after ms heard)
+    (then_no_step (opening base) s (map Msg ms) (before c t) (after c t) did) unfailed
 
 inputs_so_far : (left_before left : Option (List ℕ)) (before now : ℕ) (stream : Stream) (ms : List Message) (inp : Inp) → IsHeard left_before left before now stream ms inp
     → Begins left_before left before now (map Msg ms ++ inp ∷ [])
@@ -289,22 +289,22 @@ inputs_so_far left_before left before now stream ms (End e) heard = record {
 
 -- what a round that is cut short leaves
 pub cut_by_fault : (r : Result (Unit {0}) WriteEnd) (base : Project) (c : Course) (t : Tracing) (ms : List Message) (s u : State) (inp : Inp) (stream : Stream) (kept : Kept) (f : ℕ)
-    → IsHeard c.left_before c.left_behind c.reads_before c.reads_behind stream ms inp → Did (opening base) (map Msg ms) s (before c t) kept → f ≡ c.writes_before
-    → r ≡ Err Fault → Works r s (inp ∷ []) u kept (behind c t) f c.writes_behind → ServesRecorded base cause.WriteFault c t
+    → IsHeard c.left_before c.left_after c.reads_before c.reads_after stream ms inp → Did (opening base) (map Msg ms) s (before c t) kept → f ≡ c.writes_before
+    → r ≡ Err Fault → Works r s (inp ∷ []) u kept (after c t) f c.writes_after → ServesRecorded base cause.WriteFault c t
 cut_by_fault r base c t ms s u inp stream kept f heard did same is answered =
-    let works = subst (λ (k : Result (Unit {0}) WriteEnd). Works k s (inp ∷ []) u kept (behind c t) f c.writes_behind) is answered in
-    let all = works_then {T = Unit {0}} (Err Fault) (opening base) s u (map Msg ms) (inp ∷ []) (before c t) kept (behind c t) c.writes_before f c.writes_behind did same works in
-    served_part base c t (map Msg ms ++ inp ∷ []) (inputs_so_far c.left_before c.left_behind c.reads_before c.reads_behind stream ms inp heard) all.0 all.1
+    let works = subst (λ (k : Result (Unit {0}) WriteEnd). Works k s (inp ∷ []) u kept (after c t) f c.writes_after) is answered in
+    let all = works_then {T = Unit {0}} (Err Fault) (opening base) s u (map Msg ms) (inp ∷ []) (before c t) kept (after c t) c.writes_before f c.writes_after did same works in
+    served_part base c t (map Msg ms ++ inp ∷ []) (inputs_so_far c.left_before c.left_after c.reads_before c.reads_after stream ms inp heard) all.0 all.1
 
 pub cut_by_want : (r : Result (Unit {0}) WriteEnd) (base : Project) (c : Course) (t : Tracing) (ms : List Message) (s u : State) (inp : Inp) (stream : Stream) (kept : Kept) (f : ℕ)
-    → IsHeard c.left_before c.left_behind c.reads_before c.reads_behind stream ms inp → Did (opening base) (map Msg ms) s (before c t) kept → f ≡ c.writes_before
-    → r ≡ Err NoMemory → Works r s (inp ∷ []) u kept (behind c t) f c.writes_behind → ServesRecorded base cause.NoMemory c t
+    → IsHeard c.left_before c.left_after c.reads_before c.reads_after stream ms inp → Did (opening base) (map Msg ms) s (before c t) kept → f ≡ c.writes_before
+    → r ≡ Err NoMemory → Works r s (inp ∷ []) u kept (after c t) f c.writes_after → ServesRecorded base cause.NoMemory c t
 cut_by_want r base c t ms s u inp stream kept f heard did same is answered =
-    let works = subst (λ (k : Result (Unit {0}) WriteEnd). Works k s (inp ∷ []) u kept (behind c t) f c.writes_behind) is answered in
-    let all = works_then {T = Unit {0}} (Err NoMemory) (opening base) s u (map Msg ms) (inp ∷ []) (before c t) kept (behind c t) c.writes_before f c.writes_behind did same works in
-    served_front base c t (map Msg ms ++ inp ∷ []) (inputs_so_far c.left_before c.left_behind c.reads_before c.reads_behind stream ms inp heard) all.0 all.1
+    let works = subst (λ (k : Result (Unit {0}) WriteEnd). Works k s (inp ∷ []) u kept (after c t) f c.writes_after) is answered in
+    let all = works_then {T = Unit {0}} (Err NoMemory) (opening base) s u (map Msg ms) (inp ∷ []) (before c t) kept (after c t) c.writes_before f c.writes_after did same works in
+    served_front base c t (map Msg ms ++ inp ∷ []) (inputs_so_far c.left_before c.left_after c.reads_before c.reads_after stream ms inp heard) all.0 all.1
 
--- a round behind which the session goes on
+-- a round after which the session goes on
 pub goes_on : (base : Project) (left_before left : Option (List ℕ)) (h h' h'' : Kept) (reads_before reads : ℕ) (stream : Stream) (ms : List Message) (s t : State) (inp : Inp) (exited : Bool)
     → IsHeard left_before left reads_before reads stream ms inp → Did (opening base) (map Msg ms) s h h' → Did s (inp ∷ []) t h' h''
     → IsSettled t (ended_by inp) → is_some t.ended ≡ false → exited ≡ ends_messages inp
@@ -318,8 +318,8 @@ goes_on base left_before left h h' h'' reads_before reads stream ms s t (Msg m) 
 goes_on base left_before left h h' h'' reads_before reads stream ms s t (End e) exited heard did more settled none is =
     absurd (let wrong : true ≡ false = sym (ap is_some settled.ended) ∙ none in cc)
 
--- the end of a session isn't want of memory, which ends it at once
-not_want : (b : Bool) (x : Ending) (f : Bool) → end.NoMemory ≡ (if b then end.Exit else end_behind x f) → ⊥
+-- the end of a session isn't to be out of memory, which ends it at once
+not_want : (b : Bool) (x : Ending) (f : Bool) → end.NoMemory ≡ (if b then end.Exit else end_after x f) → ⊥
 not_want true x f e = cc
 not_want false Closed true e = cc
 not_want false Closed false e = cc
@@ -341,10 +341,10 @@ serves_so base c t read f end.NoMemory accepted is w = absurd (not_want (has_exi
 some_same : {X : Type 0} (x y : X) → Some x ≡ Some y → x ≡ y
 some_same x y e = ap (λ o. unwrap_or o x) e
 
--- a round behind which the session is over
+-- a round after which the session is over
 pub over : (base : Project) (cause : Cause) (c : Course) (r : Tracing) (kept : Kept) (stream : Stream) (ms : List Message) (s t : State) (inp : Inp) (p : EndCause × Bool)
-    → IsProject base → IsHeard c.left_before c.left_behind c.reads_before c.reads_behind stream ms inp → Did (opening base) (map Msg ms) s (before c r) kept
-    → Did s (inp ∷ []) t kept (behind c r) → IsSettled t (ended_by inp) → Some p ≡ end_taken t → NoWriteFailed c → cause ≡ cause_of p.0 p.1
+    → IsProject base → IsHeard c.left_before c.left_after c.reads_before c.reads_after stream ms inp → Did (opening base) (map Msg ms) s (before c r) kept
+    → Did s (inp ∷ []) t kept (after c r) → IsSettled t (ended_by inp) → Some p ≡ end_taken t → NoWriteFailed c → cause ≡ cause_of p.0 p.1
     → ServesRecorded base cause c r
 over base cause c r kept stream ms s t (Msg m) p ordered heard did more settled is unfailed says =
     absurd (let wrong : true ≡ false = ap is_some is ∙ ap (λ o. is_some (option_map taken o)) settled.ended in cc)
@@ -356,7 +356,7 @@ over base cause c r kept stream ms s t (End x) p ordered heard did more settled 
     let both : p ≡ taken x = some_same p (taken x) (is ∙ ap (option_map taken) settled.ended) in
     let one : p.0 ≡ x = ap (λ (k : EndCause × Bool). k.0) both in
     let two : p.1 ≡ closing = ap (λ (k : EndCause × Bool). k.1) both in
-    let whole = did_then (opening base) s t (map Msg ms) (End x ∷ []) (before c r) kept (behind c r) did more in
+    let whole = did_then (opening base) s t (map Msg ms) (End x ∷ []) (before c r) kept (after c r) did more in
     let ends : IsOver t = record { ended = ap is_some settled.ended; rest = settled.rest; answered = settled.answered } in
     let same : cause_of p.0 p.1 ≡ cause_of x closing = ap (λ k. cause_of k p.1) one ∙ ap (cause_of x) two in
     subst (λ k. ServesRecorded base k c r) (sym says)

@@ -5,59 +5,59 @@ use Rattle.srb_io.specs.Counts.{HasRisen}
 use Rattle.srb_io.specs.Files.{File}
 use Rattle.srb_io.specs.Told.{AppendsPart}
 
--- the bytes that the source had left before the call and has behind it, those that the sink held and holds, and the
--- counts of failed reads and writes before and behind it
+-- the bytes that the source had left before the call and has after it, those that the sink held and holds, and the
+-- counts of failed reads and writes before and after it
 pub record Course : Type 0 where
   pub left_before : Option (List ℕ)
-  pub left_behind : Option (List ℕ)
+  pub left_after : Option (List ℕ)
   pub held_before : Option (List ℕ)
-  pub held_behind : Option (List ℕ)
+  pub held_after : Option (List ℕ)
   pub reads_before : ℕ
-  pub reads_behind : ℕ
+  pub reads_after : ℕ
   pub writes_before : ℕ
-  pub writes_behind : ℕ
+  pub writes_after : ℕ
 
--- the files below each folder, by its name, and the counts of failed calls on them before and behind the call
+-- the files below each folder, by its name, and the counts of failed calls on them before and after the call
 pub record Listing : Type 0 where
   pub told : List ℕ → Option (List File)
   pub failed_before : ℕ
-  pub failed_behind : ℕ
+  pub failed_after : ℕ
 
 -- no call on the files failed, no read failed, and no write failed
 abbrev pub NoFileFailed : Listing → Type 0
-NoFileFailed f = f.failed_behind ≡ f.failed_before
+NoFileFailed f = f.failed_after ≡ f.failed_before
 
 abbrev pub NoReadFailed : Course → Type 0
-NoReadFailed c = c.reads_behind ≡ c.reads_before
+NoReadFailed c = c.reads_after ≡ c.reads_before
 
 abbrev pub NoWriteFailed : Course → Type 0
-NoWriteFailed c = c.writes_behind ≡ c.writes_before
+NoWriteFailed c = c.writes_after ≡ c.writes_before
 
 abbrev pub AReadFailed : Course → Type 0
-AReadFailed c = HasRisen c.reads_before c.reads_behind
+AReadFailed c = HasRisen c.reads_before c.reads_after
 
 abbrev pub AWriteFailed : Course → Type 0
-AWriteFailed c = HasRisen c.writes_before c.writes_behind
+AWriteFailed c = HasRisen c.writes_before c.writes_after
 
 -- the source gave just these bytes
 abbrev pub Reads : Course → List ℕ → Type 0
-Reads c bytes = Consumes c.left_before c.left_behind bytes
+Reads c bytes = Consumes c.left_before c.left_after bytes
 
 -- just these bytes were written
 abbrev pub Writes : Course → List ℕ → Type 0
-Writes c bytes = Appends c.held_before c.held_behind bytes
+Writes c bytes = Appends c.held_before c.held_after bytes
 
 -- a first part of these bytes was written, and not all of them
 abbrev pub WritesPart : Course → List ℕ → Type 0
-WritesPart c bytes = AppendsPart c.held_before c.held_behind bytes
+WritesPart c bytes = AppendsPart c.held_before c.held_after bytes
 
 -- nothing was read of the source, and no read of it failed
 abbrev pub ReadsNothing : Course → Type 0
-ReadsNothing c = (c.left_behind ≡ c.left_before) × NoReadFailed c
+ReadsNothing c = (c.left_after ≡ c.left_before) × NoReadFailed c
 
 -- nothing was read of the source, nothing was written, and nothing of the two failed
 pub record IsUntouched (c : Course) : Type 0 where
-  pub unread : c.left_behind ≡ c.left_before
-  pub unwritten : c.held_behind ≡ c.held_before
+  pub unread : c.left_after ≡ c.left_before
+  pub unwritten : c.held_after ≡ c.held_before
   pub reads : NoReadFailed c
   pub writes : NoWriteFailed c

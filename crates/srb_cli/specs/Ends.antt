@@ -28,7 +28,7 @@ text_report bytes = report_of ((TEXT_PATH, bytes) ∷ [])
 
 -- the source was read to its end, and held no more than the limit
 abbrev pub ReadsAll : Course → Type 0
-ReadsAll c = IsAtEnd c.left_behind × IfSome c.left_before (λ bytes. length bytes ≤ MOST_BYTES)
+ReadsAll c = IsAtEnd c.left_after × IfSome c.left_before (λ bytes. length bytes ≤ MOST_BYTES)
 
 -- how the command `text` ends, cause by cause: all others never come
 abbrev pub EndsText : Cause → Course → Type 0
@@ -52,31 +52,31 @@ IsTooBig _ = ⊥
 
 -- the end where a report was written: whether it was empty, and whether the sink failed
 abbrev pub Reported : Cause → List ℕ → Option (List ℕ) → Option (List ℕ) → ℕ → ℕ → Type 0
-Reported Done report before behind writes_before writes_behind = (report ≡ []) × Appends before behind [] × (writes_behind ≡ writes_before)
-Reported Errors report before behind writes_before writes_behind = (report ≢ []) × Appends before behind report × (writes_behind ≡ writes_before)
-Reported WriteFault report before behind writes_before writes_behind = AppendsPart before behind report × HasRisen writes_before writes_behind
-Reported _ report before behind writes_before writes_behind = ⊥
+Reported Done report before after writes_before writes_after = (report ≡ []) × Appends before after [] × (writes_after ≡ writes_before)
+Reported Errors report before after writes_before writes_after = (report ≢ []) × Appends before after report × (writes_after ≡ writes_before)
+Reported WriteFault report before after writes_before writes_after = AppendsPart before after report × HasRisen writes_before writes_after
+Reported _ report before after writes_before writes_after = ⊥
 
 -- ---- words that are no command
 
 -- the usage line was written, or a part of it where the sink failed
 abbrev pub UsageWritten : Option (List ℕ) → Option (List ℕ) → ℕ → ℕ → Type 0
-UsageWritten before behind writes_before writes_behind =
-    (Appends before behind usage_line × (writes_behind ≡ writes_before)) ⊎ (AppendsPart before behind usage_line × HasRisen writes_before writes_behind)
+UsageWritten before after writes_before writes_after =
+    (Appends before after usage_line × (writes_after ≡ writes_before)) ⊎ (AppendsPart before after usage_line × HasRisen writes_before writes_after)
 
 -- how words that are no command end: the usage line was written, or a part of it where the sink failed, and nothing was
 -- read
 pub record EndsUsage (cause : Cause) (c : Course) : Type 0 where
   pub answer : cause ≡ Usage
-  pub written : UsageWritten c.held_before c.held_behind c.writes_before c.writes_behind
+  pub written : UsageWritten c.held_before c.held_after c.writes_before c.writes_after
   pub unfailed : NoReadFailed c
-  pub unread : c.left_behind ≡ c.left_before
+  pub unread : c.left_after ≡ c.left_before
 
 -- ---- a folder is read
 
 -- The folder gave no project, and nothing was read of the source or written.
 abbrev pub EndsBefore : List ℕ → Cause → Course → Listing → Type 0
-EndsBefore dir cause c f = IsUntouched c × IsUnread cause (f.told dir) f.failed_before f.failed_behind
+EndsBefore dir cause c f = IsUntouched c × IsUnread cause (f.told dir) f.failed_before f.failed_after
 
 -- The folder gave this project, no larger than a project may be.
 pub record Gives (dir : List ℕ) (base : Project) (f : Listing) : Type 0 where

@@ -53,30 +53,30 @@ pub record IsPastBytes (told : Option (List File)) (path : List ℕ) : Type 0 wh
   pub past : MOST_BYTES < total_bytes front + length bytes
 
 -- how reading a folder ends where it gives no project, by the files that are told and the count of failed calls
-abbrev pub IsUnread : Cause → Option (List File) → (before behind : ℕ) → Type 0
-IsUnread ReadFault told before behind = HasRisen before behind
-IsUnread (TooMany count) told before behind = IsPastFiles told count × (behind ≡ before)
-IsUnread (TooBig path) told before behind = IsPastBytes told path × (behind ≡ before)
-IsUnread NoMemory told before behind = behind ≡ before
-IsUnread Done told before behind = ⊥
-IsUnread Errors told before behind = ⊥
-IsUnread NoShutdown told before behind = ⊥
-IsUnread Usage told before behind = ⊥
-IsUnread WriteFault told before behind = ⊥
-IsUnread (Broken at) told before behind = ⊥
-IsUnread (TooLong size) told before behind = ⊥
+abbrev pub IsUnread : Cause → Option (List File) → (before after : ℕ) → Type 0
+IsUnread ReadFault told before after = HasRisen before after
+IsUnread (TooMany count) told before after = IsPastFiles told count × (after ≡ before)
+IsUnread (TooBig path) told before after = IsPastBytes told path × (after ≡ before)
+IsUnread NoMemory told before after = after ≡ before
+IsUnread Done told before after = ⊥
+IsUnread Errors told before after = ⊥
+IsUnread NoShutdown told before after = ⊥
+IsUnread Usage told before after = ⊥
+IsUnread WriteFault told before after = ⊥
+IsUnread (Broken at) told before after = ⊥
+IsUnread (TooLong size) told before after = ⊥
 
 -- how reading one file ends where it gives no bytes, by the room that is left for them
-abbrev pub IsFileUnread : Cause → Option (List File) → List ℕ → ℕ → (before behind : ℕ) → Type 0
-IsFileUnread ReadFault told path room before behind = HasRisen before behind
-IsFileUnread (TooBig name) told path room before behind =
-    (name ≡ path) × ((bytes : List ℕ) × IsTold told (path, bytes) × (room < length bytes)) × (behind ≡ before)
-IsFileUnread NoMemory told path room before behind = behind ≡ before
-IsFileUnread Done told path room before behind = ⊥
-IsFileUnread Errors told path room before behind = ⊥
-IsFileUnread NoShutdown told path room before behind = ⊥
-IsFileUnread Usage told path room before behind = ⊥
-IsFileUnread WriteFault told path room before behind = ⊥
-IsFileUnread (Broken at) told path room before behind = ⊥
-IsFileUnread (TooLong size) told path room before behind = ⊥
-IsFileUnread (TooMany count) told path room before behind = ⊥
+abbrev pub IsFileUnread : Cause → Option (List File) → List ℕ → ℕ → (before after : ℕ) → Type 0
+IsFileUnread ReadFault told path room before after = HasRisen before after
+IsFileUnread (TooBig name) told path room before after =
+    (name ≡ path) × ((bytes : List ℕ) × IsTold told (path, bytes) × (room < length bytes)) × (after ≡ before)
+IsFileUnread NoMemory told path room before after = after ≡ before
+IsFileUnread Done told path room before after = ⊥
+IsFileUnread Errors told path room before after = ⊥
+IsFileUnread NoShutdown told path room before after = ⊥
+IsFileUnread Usage told path room before after = ⊥
+IsFileUnread WriteFault told path room before after = ⊥
+IsFileUnread (Broken at) told path room before after = ⊥
+IsFileUnread (TooLong size) told path room before after = ⊥
+IsFileUnread (TooMany count) told path room before after = ⊥

@@ -33,18 +33,18 @@ GoesOn (Torn at) = ⊤
 GoesOn (Malformed at) = ⊥
 GoesOn (PastLimit size) = ⊥
 
--- the end behind frames that end so: a break or a length past the limit that no byte behind it could mend, else the fault
+-- the end after frames that end so: a break or a length past the limit that no byte after it could mend, else the fault
 -- of the source where it failed, else a break inside a frame or the end of input
-abbrev pub end_behind : Ending → Bool → EndCause
-end_behind (Malformed at) failed = end.Broken at
-end_behind (PastLimit size) failed = end.TooLong size
-end_behind (Torn at) failed = if failed then end.Fault else end.Broken at
-end_behind Closed failed = if failed then end.Fault else end.Closed
+abbrev pub end_after : Ending → Bool → EndCause
+end_after (Malformed at) failed = end.Broken at
+end_after (PastLimit size) failed = end.TooLong size
+end_after (Torn at) failed = if failed then end.Fault else end.Broken at
+end_after Closed failed = if failed then end.Fault else end.Closed
 
 -- the end of a session that reads these bytes, from a source that failed or not: `exit` if there is one
 abbrev pub end_of : List ℕ → Bool → EndCause
 end_of read failed =
-    if has_exit (map decoded (bodies_of read).list) then end.Exit else end_behind (bodies_of read).end failed
+    if has_exit (map decoded (bodies_of read).list) then end.Exit else end_after (bodies_of read).end failed
 
 -- why a session ends by its end, and by whether a `shutdown` was accepted
 abbrev pub cause_of : EndCause → Bool → Cause

@@ -19,18 +19,18 @@ use Rattle.srb_cli.specs.Inputs.{messages_of, end_of}
 use Rattle.srb_cli.specs.Served.{has_failed, written_as}
 use Rattle.srb_cli.specs.Usage.{checks_once, served_folder}
 
--- the steps that the trace tells before the call and behind it
+-- the steps that the trace tells before the call and after it
 pub record Tracing : Type 0 where
   pub told_before : Option (List Step)
-  pub told_behind : Option (List Step)
+  pub told_after : Option (List Step)
 
 -- the trace gained just these steps
 abbrev pub Gains : Tracing → List Step → Type 0
-Gains t steps = t.told_behind ≡ with_steps t.told_before steps
+Gains t steps = t.told_after ≡ with_steps t.told_before steps
 
 -- the trace was told nothing
 abbrev pub RecordsNothing : Tracing → Type 0
-RecordsNothing t = t.told_behind ≡ t.told_before
+RecordsNothing t = t.told_after ≡ t.told_before
 
 -- the input that a step takes, if it takes one
 abbrev pub input_in : Step → List Inp
@@ -75,7 +75,7 @@ pub record RecordsPart (base : Project) (c : Course) (t : Tracing) : Type 0 wher
   pub short : part < length (frame (body_of last))
   pub writes : Writes c (written_as whole ++ take part (frame (body_of last)))
 
--- The record of a session that ended for want of memory: a run from this project that takes the first of the inputs of the
+-- The record of a session that ended because memory ran out: a run from this project that takes the first of the inputs of the
 -- bytes read. The frames of the first of its messages were written, all of them whole.
 pub record RecordsFront (base : Project) (c : Course) (t : Tracing) : Type 0 where
   pub read : List ℕ

@@ -22,7 +22,7 @@ written_as outs = frames (map body_of outs)
 
 -- whether the source failed in the call
 abbrev pub has_failed : Course → Bool
-has_failed c = nat_lt c.reads_before c.reads_behind
+has_failed c = nat_lt c.reads_before c.reads_after
 
 -- whether a `shutdown` among these messages was accepted
 abbrev pub is_shut : Project → List Message → Bool
@@ -39,7 +39,7 @@ pub record ServesWhole (base : Project) (cause : Cause) (c : Course) : Type 0 wh
   pub legal : Legal checked_language base (messages_of read) outs
   pub settled : IsBegun (history base (messages_of read)).session.phase → Settled checked_language base (messages_of read) outs
   pub ended : cause ≡ cause_of (end_of read (has_failed c)) (is_shut base (messages_of read))
-  pub to_end : IsFalse (has_exit (map decoded (bodies_of read).list)) → GoesOn (bodies_of read).end → NoReadFailed c → IsAtEnd c.left_behind
+  pub to_end : IsFalse (has_exit (map decoded (bodies_of read).list)) → GoesOn (bodies_of read).end → NoReadFailed c → IsAtEnd c.left_after
   pub unfailed : NoWriteFailed c
 
 -- A session over this project that a write fault ended: the messages are legal so far, the last of them was written in
@@ -55,7 +55,7 @@ pub record ServesPart (base : Project) (c : Course) : Type 0 where
   pub legal : LegalSoFar checked_language base (messages_of read) (outs ++ last ∷ [])
   pub failed : AWriteFailed c
 
--- A session over this project that ended for want of memory: the messages that were written, all of them whole, are legal so
+-- A session over this project that ended because memory ran out: the messages that were written, all of them whole, are legal so
 -- far.
 pub record ServesFront (base : Project) (c : Course) : Type 0 where
   pub read : List ℕ

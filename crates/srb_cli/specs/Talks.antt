@@ -50,7 +50,7 @@ abbrev pub ExitsLast : Bool → List Message → Type 0
 ExitsLast true messages = (front : List Message) × (messages ≡ front ++ Exit ∷ []) × IsFalse (has_exit front)
 ExitsLast false messages = IsFalse (has_exit messages)
 
--- The source gave bytes, of which these messages were read, and the stream goes on behind them. The last is `exit` where
+-- The source gave bytes, of which these messages were read, and the stream goes on after them. The last is `exit` where
 -- `exited` is set, and no other one is.
 pub record Heard (left_before left : Option (List ℕ)) (faults_before faults : ℕ) (stream : Stream) (exited : Bool) (messages : List Message) : Type 0 where
   pub read : List ℕ
@@ -78,7 +78,7 @@ pub record HeardFront (left_before left : Option (List ℕ)) (messages : List Me
   pub gave : Consumes left_before left read
   pub same : messages_of read ≡ messages ++ more
 
--- the end for which a session hears no more, where its frames end so; none for want of memory
+-- the end for which a session hears no more, where its frames end so; none because memory ran out
 abbrev pub end_for : FrameEnd → Option EndCause
 end_for (frame_end.Broken at) = Some (end.Broken at)
 end_for (frame_end.TooLong size) = Some (end.TooLong size)
@@ -111,48 +111,48 @@ pub record Kept : Type 0 where
 
 -- These steps lead from one state to another and take these inputs, the trace gained them, and the sink gained what they
 -- write.
-pub record Did (old : State) (inputs : List Inp) (new : State) (before behind : Kept) : Type 0 where
+pub record Did (old : State) (inputs : List Inp) (new : State) (before after : Kept) : Type 0 where
   pub steps : List Step
   pub leads : Leads checked_language old steps
   pub there : new ≡ state_after checked_language old steps
   pub took : inputs_in steps ≡ inputs
-  pub gains : behind.told ≡ with_steps before.told steps
-  pub writes : Appends before.held behind.held (written_as (written_by checked_language old steps))
+  pub gains : after.told ≡ with_steps before.told steps
+  pub writes : Appends before.held after.held (written_as (written_by checked_language old steps))
 
 -- The trace gained some steps, and of what they write the sink gained whole frames up to the last one, of which it gained
 -- a part.
-pub record DidPart (old : State) (inputs : List Inp) (before behind : Kept) : Type 0 where
+pub record DidPart (old : State) (inputs : List Inp) (before after : Kept) : Type 0 where
   pub steps : List Step
   pub leads : Leads checked_language old steps
   pub took : inputs_in steps ≡ inputs
-  pub gains : behind.told ≡ with_steps before.told steps
+  pub gains : after.told ≡ with_steps before.told steps
   pub outs : List Out
   pub last : Out
   pub part : ℕ
   pub wrote : written_by checked_language old steps ≡ outs ++ last ∷ []
   pub short : part < length (frame (body_of last))
-  pub writes : Appends before.held behind.held (written_as outs ++ take part (frame (body_of last)))
+  pub writes : Appends before.held after.held (written_as outs ++ take part (frame (body_of last)))
 
 -- The trace gained some steps that take the first of these inputs, and of what they write the sink gained whole frames of
 -- a first part.
-pub record DidFront (old : State) (inputs : List Inp) (before behind : Kept) : Type 0 where
+pub record DidFront (old : State) (inputs : List Inp) (before after : Kept) : Type 0 where
   pub steps : List Step
   pub later : List Inp
   pub leads : Leads checked_language old steps
   pub took : inputs ≡ inputs_in steps ++ later
-  pub gains : behind.told ≡ with_steps before.told steps
+  pub gains : after.told ≡ with_steps before.told steps
   pub outs : List Out
   pub rest : List Out
   pub wrote : written_by checked_language old steps ≡ outs ++ rest
-  pub writes : Appends before.held behind.held (written_as outs)
+  pub writes : Appends before.held after.held (written_as outs)
 
 -- what a call did that takes these inputs and may be cut short
-abbrev pub Works : {T : Type 0} → Result T WriteEnd → (old : State) → List Inp → (new : State) → (before behind : Kept) → (faults_before faults : ℕ) → Type 0
-Works (Ok done) old inputs new before behind faults_before faults = Did old inputs new before behind × (faults ≡ faults_before)
-Works (Err Fault) old inputs new before behind faults_before faults = DidPart old inputs before behind × HasRisen faults_before faults
-Works (Err NoMemory) old inputs new before behind faults_before faults = DidFront old inputs before behind × (faults ≡ faults_before)
+abbrev pub Works : {T : Type 0} → Result T WriteEnd → (old : State) → List Inp → (new : State) → (before after : Kept) → (faults_before faults : ℕ) → Type 0
+Works (Ok done) old inputs new before after faults_before faults = Did old inputs new before after × (faults ≡ faults_before)
+Works (Err Fault) old inputs new before after faults_before faults = DidPart old inputs before after × HasRisen faults_before faults
+Works (Err NoMemory) old inputs new before after faults_before faults = DidFront old inputs before after × (faults ≡ faults_before)
 
--- what a call did that takes no input and writes nothing, and may be cut short for want of memory, whatever the sink holds
+-- what a call did that takes no input and writes nothing, and may be cut short because memory ran out, whatever the sink holds
 abbrev pub Goes : {T E : Type 0} → Result T E → (old new : State) → (told_before told : Option (List Step)) → Type 0
 Goes (Ok done) old new told_before told =
     (held : Option (List ℕ)) → Did old [] new (record { held = held; told = told_before }) (record { held = held; told = told })
@@ -160,24 +160,24 @@ Goes (Err end) old new told_before told =
     (held : Option (List ℕ)) → DidFront old [] (record { held = held; told = told_before }) (record { held = held; told = told })
 
 -- what writing a message did, if there is one
-abbrev pub Says : {T : Type 0} → Result T WriteEnd → Option Out → (before behind : Option (List ℕ)) → (faults_before faults : ℕ) → Type 0
-Says (Ok done) out before behind faults_before faults = Appends before behind (written_as (listed out)) × (faults ≡ faults_before)
-Says (Err Fault) out before behind faults_before faults =
-    ((last : Out) × (part : ℕ) × (out ≡ Some last) × (part < length (frame (body_of last))) × Appends before behind (take part (frame (body_of last)))) × HasRisen faults_before faults
-Says (Err NoMemory) out before behind faults_before faults = Keeps before behind × (faults ≡ faults_before)
+abbrev pub Says : {T : Type 0} → Result T WriteEnd → Option Out → (before after : Option (List ℕ)) → (faults_before faults : ℕ) → Type 0
+Says (Ok done) out before after faults_before faults = Appends before after (written_as (listed out)) × (faults ≡ faults_before)
+Says (Err Fault) out before after faults_before faults =
+    ((last : Out) × (part : ℕ) × (out ≡ Some last) × (part < length (frame (body_of last))) × Appends before after (take part (frame (body_of last)))) × HasRisen faults_before faults
+Says (Err NoMemory) out before after faults_before faults = Keeps before after × (faults ≡ faults_before)
 
--- it is want of memory
+-- it is that memory ran out
 abbrev pub IsWant : {T : Type 0} → Result T WriteEnd → Type 0
 IsWant (Ok done) = ⊥
 IsWant (Err Fault) = ⊥
 IsWant (Err NoMemory) = Unit {0}
 
 -- what telling the trace a step and then writing its message did, if there is one: the trace took note of it, or nothing
--- was done for want of memory
-abbrev pub Tells : {T : Type 0} → Result T WriteEnd → Step → Option Out → (before behind : Kept) → (faults_before faults : ℕ) → Type 0
-Tells r step out before behind faults_before faults =
-    ((behind.told ≡ with_steps before.told (step ∷ [])) × Says r out before.held behind.held faults_before faults)
-    ⊎ (IsWant r × (behind.told ≡ before.told) × (behind.held ≡ before.held) × (faults ≡ faults_before))
+-- was done because memory ran out
+abbrev pub Tells : {T : Type 0} → Result T WriteEnd → Step → Option Out → (before after : Kept) → (faults_before faults : ℕ) → Type 0
+Tells r step out before after faults_before faults =
+    ((after.told ≡ with_steps before.told (step ∷ [])) × Says r out before.held after.held faults_before faults)
+    ⊎ (IsWant r × (after.told ≡ before.told) × (after.held ≡ before.held) × (faults ≡ faults_before))
 
 -- the message that is to be written of a file that was worked on
 abbrev pub shown_out : Landed → Option Out

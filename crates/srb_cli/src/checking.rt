@@ -14,13 +14,13 @@ fn check<K: Sink>(alloc: Global, project: &Project, sink: &mut K) -> Cause
     requires { K.faults sink.old < 2 ^ 64 - 1 }
     ensures { (left : Option (List ℕ)) (reads : ℕ) → Checks project.now result record {
       left_before = left;
-      left_behind = left;
+      left_after = left;
       held_before = K.held sink.old;
-      held_behind = K.held sink.new;
+      held_after = K.held sink.new;
       reads_before = reads;
-      reads_behind = reads;
+      reads_after = reads;
       writes_before = K.faults sink.old;
-      writes_behind = K.faults sink.new;
+      writes_after = K.faults sink.new;
     } }
 {
     match report(alloc, project.files()) {
@@ -35,17 +35,17 @@ pub fn tc<F: Files, K: Sink>(alloc: Global, dir: &str, files: &mut F, sink: &mut
     requires writes { K.faults sink.old < 2 ^ 64 - 1 }
     ensures { (left : Option (List ℕ)) (reads : ℕ) → EndsChecking dir.now result record {
       left_before = left;
-      left_behind = left;
+      left_after = left;
       held_before = K.held sink.old;
-      held_behind = K.held sink.new;
+      held_after = K.held sink.new;
       reads_before = reads;
-      reads_behind = reads;
+      reads_after = reads;
       writes_before = K.faults sink.old;
-      writes_behind = K.faults sink.new;
+      writes_after = K.faults sink.new;
     } record {
       told = F.told files.old;
       failed_before = F.faults files.old;
-      failed_behind = F.faults files.new;
+      failed_after = F.faults files.new;
     } }
 {
     match read_folder(alloc, files, dir) {

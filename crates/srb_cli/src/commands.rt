@@ -30,72 +30,72 @@ pub fn run<R: Threads + Wait + Sync, F: Files, S: Source + Send, K: Sink + Send,
     ensures status { result.status ≡ status_of result.cause }
     ensures ends { Ends (map string_bytes words.now) result.cause record {
       left_before = S.left source.old;
-      left_behind = S.left source.new;
+      left_after = S.left source.new;
       held_before = K.held sink.old;
-      held_behind = K.held sink.new;
+      held_after = K.held sink.new;
       reads_before = S.faults source.old;
-      reads_behind = S.faults source.new;
+      reads_after = S.faults source.new;
       writes_before = K.faults sink.old;
-      writes_behind = K.faults sink.new;
+      writes_after = K.faults sink.new;
     } record {
       told = F.told files.old;
       failed_before = F.faults files.old;
-      failed_behind = F.faults files.new;
+      failed_after = F.faults files.new;
     } }
     ensures complete { IsComplete (map string_bytes words.now) result.cause record {
       left_before = S.left source.old;
-      left_behind = S.left source.new;
+      left_after = S.left source.new;
       held_before = K.held sink.old;
-      held_behind = K.held sink.new;
+      held_after = K.held sink.new;
       reads_before = S.faults source.old;
-      reads_behind = S.faults source.new;
+      reads_after = S.faults source.new;
       writes_before = K.faults sink.old;
-      writes_behind = K.faults sink.new;
+      writes_after = K.faults sink.new;
     } }
     ensures checked { IsCheckedWhole (map string_bytes words.now) result.cause record {
       left_before = S.left source.old;
-      left_behind = S.left source.new;
+      left_after = S.left source.new;
       held_before = K.held sink.old;
-      held_behind = K.held sink.new;
+      held_after = K.held sink.new;
       reads_before = S.faults source.old;
-      reads_behind = S.faults source.new;
+      reads_after = S.faults source.new;
       writes_before = K.faults sink.old;
-      writes_behind = K.faults sink.new;
+      writes_after = K.faults sink.new;
     } record {
       told = F.told files.old;
       failed_before = F.faults files.old;
-      failed_behind = F.faults files.new;
+      failed_after = F.faults files.new;
     } }
     ensures served { IsServedWhole (map string_bytes words.now) result.cause record {
       left_before = S.left source.old;
-      left_behind = S.left source.new;
+      left_after = S.left source.new;
       held_before = K.held sink.old;
-      held_behind = K.held sink.new;
+      held_after = K.held sink.new;
       reads_before = S.faults source.old;
-      reads_behind = S.faults source.new;
+      reads_after = S.faults source.new;
       writes_before = K.faults sink.old;
-      writes_behind = K.faults sink.new;
+      writes_after = K.faults sink.new;
     } record {
       told = F.told files.old;
       failed_before = F.faults files.old;
-      failed_behind = F.faults files.new;
+      failed_after = F.faults files.new;
     } }
     ensures recorded { IsRecorded (map string_bytes words.now) result.cause record {
       left_before = S.left source.old;
-      left_behind = S.left source.new;
+      left_after = S.left source.new;
       held_before = K.held sink.old;
-      held_behind = K.held sink.new;
+      held_after = K.held sink.new;
       reads_before = S.faults source.old;
-      reads_behind = S.faults source.new;
+      reads_after = S.faults source.new;
       writes_before = K.faults sink.old;
-      writes_behind = K.faults sink.new;
+      writes_after = K.faults sink.new;
     } record {
       told = F.told files.old;
       failed_before = F.faults files.old;
-      failed_behind = F.faults files.new;
+      failed_after = F.faults files.new;
     } record {
       told_before = T.told trace.old;
-      told_behind = T.told trace.new;
+      told_after = T.told trace.new;
     } }
 {
     if checks_once(words) {

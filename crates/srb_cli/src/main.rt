@@ -28,7 +28,7 @@ use std::env;
 use std::io::ErrorKind;
 use std::process::ExitCode;
 
-/// The words behind the program's name. Where one isn't UTF-8 there are none, and no command has none.
+/// The words after the program's name. Where one isn't UTF-8 there are none, and no command has none.
 fn words(rt: &HostRuntime) -> Result<Vec<String>, AllocError> {
     let mut words = Vec::new(rt.alloc());
     match env::args(rt) {

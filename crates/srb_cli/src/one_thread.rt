@@ -27,41 +27,41 @@ pub fn once<F: Files, S: Source, K: Sink>(
     ensures status { result.status ≡ status_of result.cause }
     ensures ends { Ends (map string_bytes words.now) result.cause record {
       left_before = S.left source.old;
-      left_behind = S.left source.new;
+      left_after = S.left source.new;
       held_before = K.held sink.old;
-      held_behind = K.held sink.new;
+      held_after = K.held sink.new;
       reads_before = S.faults source.old;
-      reads_behind = S.faults source.new;
+      reads_after = S.faults source.new;
       writes_before = K.faults sink.old;
-      writes_behind = K.faults sink.new;
+      writes_after = K.faults sink.new;
     } record {
       told = F.told files.old;
       failed_before = F.faults files.old;
-      failed_behind = F.faults files.new;
+      failed_after = F.faults files.new;
     } }
     ensures complete { IsComplete (map string_bytes words.now) result.cause record {
       left_before = S.left source.old;
-      left_behind = S.left source.new;
+      left_after = S.left source.new;
       held_before = K.held sink.old;
-      held_behind = K.held sink.new;
+      held_after = K.held sink.new;
       reads_before = S.faults source.old;
-      reads_behind = S.faults source.new;
+      reads_after = S.faults source.new;
       writes_before = K.faults sink.old;
-      writes_behind = K.faults sink.new;
+      writes_after = K.faults sink.new;
     } }
     ensures checked { IsCheckedWhole (map string_bytes words.now) result.cause record {
       left_before = S.left source.old;
-      left_behind = S.left source.new;
+      left_after = S.left source.new;
       held_before = K.held sink.old;
-      held_behind = K.held sink.new;
+      held_after = K.held sink.new;
       reads_before = S.faults source.old;
-      reads_behind = S.faults source.new;
+      reads_after = S.faults source.new;
       writes_before = K.faults sink.old;
-      writes_behind = K.faults sink.new;
+      writes_after = K.faults sink.new;
     } record {
       told = F.told files.old;
       failed_before = F.faults files.old;
-      failed_behind = F.faults files.new;
+      failed_after = F.faults files.new;
     } }
 {
     if is_text(words) {

@@ -25,34 +25,34 @@ pub fn lsp<R: Wait, F: Files, S: Source, K: Sink, T: Trace>(
     requires writes { K.faults sink.old < 2 ^ 64 - 1 }
     ensures ends { EndsServing dir.now result record {
       left_before = S.left source.old;
-      left_behind = S.left source.new;
+      left_after = S.left source.new;
       held_before = K.held sink.old;
-      held_behind = K.held sink.new;
+      held_after = K.held sink.new;
       reads_before = S.faults source.old;
-      reads_behind = S.faults source.new;
+      reads_after = S.faults source.new;
       writes_before = K.faults sink.old;
-      writes_behind = K.faults sink.new;
+      writes_after = K.faults sink.new;
     } record {
       told = F.told files.old;
       failed_before = F.faults files.old;
-      failed_behind = F.faults files.new;
+      failed_after = F.faults files.new;
     } }
     ensures recorded { RecordsServing dir.now result record {
       left_before = S.left source.old;
-      left_behind = S.left source.new;
+      left_after = S.left source.new;
       held_before = K.held sink.old;
-      held_behind = K.held sink.new;
+      held_after = K.held sink.new;
       reads_before = S.faults source.old;
-      reads_behind = S.faults source.new;
+      reads_after = S.faults source.new;
       writes_before = K.faults sink.old;
-      writes_behind = K.faults sink.new;
+      writes_after = K.faults sink.new;
     } record {
       told = F.told files.old;
       failed_before = F.faults files.old;
-      failed_behind = F.faults files.new;
+      failed_after = F.faults files.new;
     } record {
       told_before = T.told trace.old;
-      told_behind = T.told trace.new;
+      told_after = T.told trace.new;
     } }
 {
     match read_folder(alloc, files, dir) {

@@ -22,7 +22,7 @@ use std::marker::Brand;
 use std::sync::Wait;
 use std::sync::ledger::{Blank, Ledger};
 
-/// The end of a session's input where its frames end so. `None` exactly for want of memory.
+/// The end of a session's input where its frames end so. `None` exactly because memory ran out.
 fn end_for(end: FrameEnd) -> Option<EndCause>
     ensures { result ≡ end_for end }
 {
@@ -64,7 +64,7 @@ fn next_input<S: Source>(
     }
 }
 
-/// Whether the input is `exit`, behind which no message is read.
+/// Whether the input is `exit`, after which no message is read.
 fn ends_messages(inp: &Inp) -> bool
     ensures { result ≡ ends_messages inp.now }
 {
@@ -320,7 +320,7 @@ fn answer<L: Ledger, K: Sink, T: Trace>(
     reply(alloc, core, sink, trace)
 }
 
-/// The cause for which a session ends behind this end of its input.
+/// The cause for which a session ends after this end of its input.
 fn cause_of(end: EndCause, accepted: bool) -> Cause
     ensures { result ≡ cause_of end accepted }
 {
@@ -359,16 +359,16 @@ fn serve_counting<R: Wait, L: Ledger, S: Source, K: Sink, T: Trace>(
     requires writes { K.faults sink.old < 2 ^ 64 - 1 }
     ensures { ServesRecorded project result record {
       left_before = S.left source.old;
-      left_behind = S.left source.new;
+      left_after = S.left source.new;
       held_before = K.held sink.old;
-      held_behind = K.held sink.new;
+      held_after = K.held sink.new;
       reads_before = S.faults source.old;
-      reads_behind = S.faults source.new;
+      reads_after = S.faults source.new;
       writes_before = K.faults sink.old;
-      writes_behind = K.faults sink.new;
+      writes_after = K.faults sink.new;
     } record {
       told_before = T.told trace.old;
-      told_behind = T.told trace.new;
+      told_after = T.told trace.new;
     } }
 {
     let mut steps: Steps<L> = Steps::new(blank);
@@ -411,16 +411,16 @@ pub fn serve<R: Wait, S: Source, K: Sink, T: Trace>(
     requires writes { K.faults sink.old < 2 ^ 64 - 1 }
     ensures { ServesRecorded project result record {
       left_before = S.left source.old;
-      left_behind = S.left source.new;
+      left_after = S.left source.new;
       held_before = K.held sink.old;
-      held_behind = K.held sink.new;
+      held_after = K.held sink.new;
       reads_before = S.faults source.old;
-      reads_behind = S.faults source.new;
+      reads_after = S.faults source.new;
       writes_before = K.faults sink.old;
-      writes_behind = K.faults sink.new;
+      writes_after = K.faults sink.new;
     } record {
       told_before = T.told trace.old;
-      told_behind = T.told trace.new;
+      told_after = T.told trace.new;
     } }
 {
     serve_counting::<R, Brand, S, K, T>(rt, alloc, project, source, sink, trace, Blank::new(1))

@@ -34,13 +34,13 @@ pub fn text<S: Source, K: Sink>(alloc: Global, source: &mut S, sink: &mut K) -> 
     requires writes { K.faults sink.old < 2 ^ 64 - 1 }
     ensures { EndsText result record {
       left_before = S.left source.old;
-      left_behind = S.left source.new;
+      left_after = S.left source.new;
       held_before = K.held sink.old;
-      held_behind = K.held sink.new;
+      held_after = K.held sink.new;
       reads_before = S.faults source.old;
-      reads_behind = S.faults source.new;
+      reads_after = S.faults source.new;
       writes_before = K.faults sink.old;
-      writes_behind = K.faults sink.new;
+      writes_after = K.faults sink.new;
     } }
 {
     match read_all(alloc, source, BYTES_LIMIT) {

@@ -51,7 +51,7 @@ module _ {X : Type 0} (L : Language Ty X) where
       h ∙ (λ i. bodies.with_default L method p.name (e i) (known_option L p.default)
       ((k ∙ ap (λ m. seeing (m ∷ []) c) n) i) ((a ∙ ap (λ t. bodies.has_type p.name t s) (d ∙ e)) i))
 
-  -- what is visible behind it
+  -- what is visible after it
   pub names_seen : (p : Parameter Tree) (name : List ℕ) (c inner after : Context Ty) →
       name ≡ p.name → inner ≡ seeing (name ∷ []) c → after ≡ seeing (bodies.declared_by L (known_option L p.default)) inner →
       after ≡ seeing (names_with L (known_parameter L p)) c
@@ -122,12 +122,12 @@ module _ {X : Type 0} (L : Language Ty X) where
 
   -- a method in its own context, by what its parts give
   pub within_is : (name : List ℕ) (span place : Span) (row : List (Parameter Tree)) (g : Guarded Tree) (params : List typed.Typed) (result : Option Ty)
-      (c inner : Context Ty) (s behind : State Ty) (j : Judged Ty) →
-      s ≡ bodies.fresh → behind ≡ with_parameters L name params (known_parameters L row) c s →
-      inner ≡ seeing_parameters L (known_parameters L row) c → j ≡ guard_judged L (known_guarded L g) inner behind →
+      (c inner : Context Ty) (s after : State Ty) (j : Judged Ty) →
+      s ≡ bodies.fresh → after ≡ with_parameters L name params (known_parameters L row) c s →
+      inner ≡ seeing_parameters L (known_parameters L row) c → j ≡ guard_judged L (known_guarded L g) inner after →
       place ≡ result_place g span → result ≡ c.result →
       bodies.method_end L result place j ≡ method_within L name span row g params c
-  within_is name span place row g params result c inner s behind j f b k h p r =
+  within_is name span place row g params result c inner s after j f b k h p r =
       (λ i. bodies.method_end L (r i) (p i) (h i))
       ∙ (λ i. bodies.method_end L c.result (result_place g span)
       (guard_judged L (known_guarded L g) (k i) ((b ∙ ap (λ x. with_parameters L name params (known_parameters L row) c x) f) i)))

@@ -62,7 +62,7 @@ module _ {X : Type 0} (L : Language Ty X) where
   abbrev pub names_with : Parameter (Part Ty X) → List (List ℕ)
   names_with p = p.name ∷ bodies.declared_by L p.default
 
-  -- the context behind parameters
+  -- the context after parameters
   abbrev pub seeing_parameters : List (Parameter (Part Ty X)) → Context Ty → Context Ty
   seeing_parameters row c = seeing (bodies.parameter_names L row) c
 

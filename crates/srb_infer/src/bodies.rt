@@ -208,7 +208,7 @@ fn parameter<W: Walk, L: Language>(
     Ok(())
 }
 
-/// Judges the parameters of a method, and answers the context behind them.
+/// Judges the parameters of a method, and answers the context after them.
 fn parameters<W: Walk, L: Language>(
     alloc: Global,
     walk: &W,
@@ -619,7 +619,7 @@ fn program<W: Walk, L: Language>(
     Ok(errors)
 }
 
-/// The errors of the judgement of a program whose nodes nest no deeper than so many levels. It fails for want of memory where they do.
+/// The errors of the judgement of a program whose nodes nest no deeper than so many levels. It is out of memory where they do.
 fn within<L: Language>(
     alloc: Global,
     language: &L,

@@ -14,7 +14,7 @@ use srb_terms::{NoMemory, Ty};
 use srb_walk::walking::Walk;
 use std::alloc::{AllocError, Global};
 
-/// Levels on levels: each judges the parts of a tree by those below it. Where no level is left, it answers want of memory.
+/// Levels on levels: each judges the parts of a tree by those below it. Where no level is left, it answers that memory ran out.
 #[derive(Drop)]
 pub enum Levels {
     /// No level is left.

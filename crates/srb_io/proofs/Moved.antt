@@ -7,7 +7,7 @@ use Rattle.std.specs.declared.option.Option.{Option}
 use Rattle.std.specs.Io.KnownBytes.{Consumes, Appends}
 use Rattle.srb_io.specs.Told.{IsPast, ConsumesWithin, ConsumesLength}
 
--- a write of a part of what a piece has behind its first p bytes
+-- a write of a part of what a piece has after its first p bytes
 pub Appends-further : (a b c : Option (List ℕ)) (piece : List ℕ) (p n : ℕ)
     → n ≤ length (take (length piece - p) (drop p piece)) → Appends a b (take p piece)
     → Appends b c (take n (take (length piece - p) (drop p piece))) → Appends a c (take (p + n) piece)
@@ -18,7 +18,7 @@ Appends-further a b c piece p n within first more =
     ap (λ l. take p piece ++ l) (take-take n m (drop p piece) short) ∙ sym (take-add p n piece) in
     subst (Appends a c) same (Appends-trans a b c _ _ first more)
 
--- a read behind the bytes that were read before
+-- a read after the bytes that were read before
 ConsumesLength-more : (a b c : Option (List ℕ)) (before into : List ℕ) (n : ℕ) → n ≤ length into
     → Consumes a b before → Consumes b c (take n into) → ConsumesLength a c (length before + n)
 ConsumesLength-more a b c before into n within first more =

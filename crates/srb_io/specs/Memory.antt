@@ -6,7 +6,7 @@ use Rattle.std.specs.List.{list_any}
 abbrev pub fails_at : List ℕ → ℕ → Bool
 fails_at fail_at call = list_any (λ k. k == call) fail_at
 
--- the most bytes that the read with this number, counted from 1, moves: those of its own piece, behind the last piece
+-- the most bytes that the read with this number, counted from 1, moves: those of its own piece, after the last piece
 -- those of the last one, and always one at least; with no pieces all
 abbrev pub piece_at : List ℕ → ℕ → ℕ
 piece_at [] call = 2 ^ 64 - 1

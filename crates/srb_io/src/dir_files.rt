@@ -69,7 +69,7 @@ impl<'a, R: System + AllocGlobal + Clone + Drop> Files for DirFiles<'a, R> {
 struct Walk {
     // The paths of Ruby files.
     found: Vec<String>,
-    // The folders that weren't looked into yet, each with `/` behind it.
+    // The folders that weren't looked into yet, each with `/` after it.
     folders: Vec<String>,
     entries: u32,
 }

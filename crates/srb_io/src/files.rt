@@ -9,7 +9,7 @@ use std::alloc::{AllocError, Global};
 pub enum FilesEnd {
     /// The folder or the file couldn't be read.
     Failed,
-    /// Want of memory.
+    /// Out of memory.
     NoMemory,
 }
 

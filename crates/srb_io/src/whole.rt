@@ -18,7 +18,7 @@ pub enum ReadAllEnd {
     TooBig,
     /// A read failed.
     Fault,
-    /// Want of memory.
+    /// Out of memory.
     NoMemory,
 }
 

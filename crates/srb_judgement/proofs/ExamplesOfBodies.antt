@@ -3,7 +3,7 @@ use Rattle.std.proofs.Common.{◌≡◌, ap}
 use Rattle.srb_judgement.specs.Bodies.{program_errors}
 use Rattle.srb_judgement.specs.ExampleLanguage.{SMALL}
 use Rattle.srb_judgement.specs.ExampleTrees.{source, tree_of}
-use Rattle.srb_judgement.specs.ExamplesOfBodies.{BodiesHaveContexts, DefaultsAreJudged, UsualPrograms, PARAMETERS, WITHOUT_SIG, MALFORMED_SIG, PRIVATE_METHOD, SIG_AT_TOP, DECLARING_CALLS, OWN_VARIABLES, WRONG_DEFAULT, BEHIND_DEFAULT, EARLIER_PARAMETERS, LENGTH_OF_NIL, BEHIND_RETURN, ARRAY_OF_ANY, STRONG, WRONG_RESULT, TEXT_AND_ENSURE}
+use Rattle.srb_judgement.specs.ExamplesOfBodies.{BodiesHaveContexts, DefaultsAreJudged, UsualPrograms, PARAMETERS, WITHOUT_SIG, MALFORMED_SIG, PRIVATE_METHOD, SIG_AT_TOP, DECLARING_CALLS, OWN_VARIABLES, WRONG_DEFAULT, AFTER_DEFAULT, EARLIER_PARAMETERS, LENGTH_OF_NIL, AFTER_A_RETURN, ARRAY_OF_ANY, STRONG, WRONG_RESULT, TEXT_AND_ENSURE}
 use Rattle.srb_judgement.specs.Judgements.{part_at, part_of, errors_of}
 use Rattle.rb_tree.specs.declared.syntax.Node.{Node}
 use Rattle.rb_tree.specs.declared.syntax.Tree.{Tree}
@@ -37,21 +37,21 @@ bodies_have_contexts = (ap (program_errors SMALL) known_parameters, ap (program_
 known_wrong_default : part_of SMALL (WRONG_DEFAULT Node Tree (source tree_of)) ≡ WRONG_DEFAULT KNOWN KNOWN (source (part_at SMALL))
 known_wrong_default = simp tree-part
 
-known_behind_default : part_of SMALL (BEHIND_DEFAULT Node Tree (source tree_of)) ≡ BEHIND_DEFAULT KNOWN KNOWN (source (part_at SMALL))
-known_behind_default = simp tree-part
+known_after_default : part_of SMALL (AFTER_DEFAULT Node Tree (source tree_of)) ≡ AFTER_DEFAULT KNOWN KNOWN (source (part_at SMALL))
+known_after_default = simp tree-part
 
 known_earlier_parameters : part_of SMALL (EARLIER_PARAMETERS Node Tree (source tree_of)) ≡ EARLIER_PARAMETERS KNOWN KNOWN (source (part_at SMALL))
 known_earlier_parameters = simp tree-part
 
 pub defaults_are_judged : DefaultsAreJudged
 unfolding errors_of part_at
-defaults_are_judged = (ap (program_errors SMALL) known_wrong_default, ap (program_errors SMALL) known_behind_default, ap (program_errors SMALL) known_earlier_parameters)
+defaults_are_judged = (ap (program_errors SMALL) known_wrong_default, ap (program_errors SMALL) known_after_default, ap (program_errors SMALL) known_earlier_parameters)
 
 known_length_of_nil : part_of SMALL (LENGTH_OF_NIL Node Tree (source tree_of)) ≡ LENGTH_OF_NIL KNOWN KNOWN (source (part_at SMALL))
 known_length_of_nil = simp tree-part
 
-known_behind_return : part_of SMALL (BEHIND_RETURN Node Tree (source tree_of)) ≡ BEHIND_RETURN KNOWN KNOWN (source (part_at SMALL))
-known_behind_return = simp tree-part
+known_after_a_return : part_of SMALL (AFTER_A_RETURN Node Tree (source tree_of)) ≡ AFTER_A_RETURN KNOWN KNOWN (source (part_at SMALL))
+known_after_a_return = simp tree-part
 
 known_array_of_any : part_of SMALL (ARRAY_OF_ANY Node Tree (source tree_of)) ≡ ARRAY_OF_ANY KNOWN KNOWN (source (part_at SMALL))
 known_array_of_any = simp tree-part
@@ -67,4 +67,4 @@ known_text_and_ensure = simp tree-part
 
 pub usual_programs : UsualPrograms
 unfolding errors_of part_at
-usual_programs = (ap (program_errors SMALL) known_length_of_nil, ap (program_errors SMALL) known_behind_return, ap (program_errors SMALL) known_array_of_any, ap (program_errors SMALL) known_strong, ap (program_errors SMALL) known_wrong_result, ap (program_errors SMALL) known_text_and_ensure)
+usual_programs = (ap (program_errors SMALL) known_length_of_nil, ap (program_errors SMALL) known_after_a_return, ap (program_errors SMALL) known_array_of_any, ap (program_errors SMALL) known_strong, ap (program_errors SMALL) known_wrong_result, ap (program_errors SMALL) known_text_and_ensure)

@@ -3,7 +3,7 @@ use Rattle.std.proofs.Common.{◌≡◌, ap}
 use Rattle.srb_judgement.specs.Bodies.{program_errors}
 use Rattle.srb_judgement.specs.ExampleLanguage.{SMALL}
 use Rattle.srb_judgement.specs.ExampleTrees.{source, tree_of}
-use Rattle.srb_judgement.specs.ExamplesOfLoops.{LoopsPinVariables, LoopsHaveTypes, BlocksPinVariables, STAYS_NIL, WIDE_ENOUGH, GETS_PINNED_TYPE, INNERMOST_PIN, NEW_VARIABLE, CONDITION_INSIDE, LOOP_TYPE, BEHIND_LOOP, NEXT_IN_LOOP, ENDLESS, BLOCK_STAYS, BEHIND_BLOCK, BLOCK_PARAMETER, BLOCK_TYPE, NEXT_ALONE, BLOCK_BREAKS, TWO_BLOCKS, BLOCK_IN_LOOP, DEAD_ENTRY, SUPER_BLOCK, SAFE_BREAK}
+use Rattle.srb_judgement.specs.ExamplesOfLoops.{LoopsPinVariables, LoopsHaveTypes, BlocksPinVariables, STAYS_NIL, WIDE_ENOUGH, GETS_PINNED_TYPE, INNERMOST_PIN, NEW_VARIABLE, CONDITION_INSIDE, LOOP_TYPE, AFTER_LOOP, NEXT_IN_LOOP, ENDLESS, BLOCK_STAYS, AFTER_BLOCK, BLOCK_PARAMETER, BLOCK_TYPE, NEXT_ALONE, BLOCK_BREAKS, TWO_BLOCKS, BLOCK_IN_LOOP, DEAD_ENTRY, SUPER_BLOCK, SAFE_BREAK}
 use Rattle.srb_judgement.specs.Judgements.{part_at, part_of, errors_of}
 use Rattle.rb_tree.specs.declared.syntax.Node.{Node}
 use Rattle.rb_tree.specs.declared.syntax.Tree.{Tree}
@@ -34,8 +34,8 @@ loops_pin_variables = (ap (program_errors SMALL) known_stays_nil, ap (program_er
 known_loop_type : part_of SMALL (LOOP_TYPE Node Tree (source tree_of)) ≡ LOOP_TYPE KNOWN KNOWN (source (part_at SMALL))
 known_loop_type = simp tree-part
 
-known_behind_loop : part_of SMALL (BEHIND_LOOP Node Tree (source tree_of)) ≡ BEHIND_LOOP KNOWN KNOWN (source (part_at SMALL))
-known_behind_loop = simp tree-part
+known_after_loop : part_of SMALL (AFTER_LOOP Node Tree (source tree_of)) ≡ AFTER_LOOP KNOWN KNOWN (source (part_at SMALL))
+known_after_loop = simp tree-part
 
 known_next_in_loop : part_of SMALL (NEXT_IN_LOOP Node Tree (source tree_of)) ≡ NEXT_IN_LOOP KNOWN KNOWN (source (part_at SMALL))
 known_next_in_loop = simp tree-part
@@ -45,13 +45,13 @@ known_endless = simp tree-part
 
 pub loops_have_types : LoopsHaveTypes
 unfolding errors_of part_at
-loops_have_types = (ap (program_errors SMALL) known_loop_type, ap (program_errors SMALL) known_behind_loop, ap (program_errors SMALL) known_next_in_loop, ap (program_errors SMALL) known_endless)
+loops_have_types = (ap (program_errors SMALL) known_loop_type, ap (program_errors SMALL) known_after_loop, ap (program_errors SMALL) known_next_in_loop, ap (program_errors SMALL) known_endless)
 
 known_block_stays : part_of SMALL (BLOCK_STAYS Node Tree (source tree_of)) ≡ BLOCK_STAYS KNOWN KNOWN (source (part_at SMALL))
 known_block_stays = simp tree-part
 
-known_behind_block : part_of SMALL (BEHIND_BLOCK Node Tree (source tree_of)) ≡ BEHIND_BLOCK KNOWN KNOWN (source (part_at SMALL))
-known_behind_block = simp tree-part
+known_after_block : part_of SMALL (AFTER_BLOCK Node Tree (source tree_of)) ≡ AFTER_BLOCK KNOWN KNOWN (source (part_at SMALL))
+known_after_block = simp tree-part
 
 known_block_parameter : part_of SMALL (BLOCK_PARAMETER Node Tree (source tree_of)) ≡ BLOCK_PARAMETER KNOWN KNOWN (source (part_at SMALL))
 known_block_parameter = simp tree-part
@@ -82,4 +82,4 @@ known_safe_break = simp tree-part
 
 pub blocks_pin_variables : BlocksPinVariables
 unfolding errors_of part_at
-blocks_pin_variables = (ap (program_errors SMALL) known_block_stays, ap (program_errors SMALL) known_behind_block, ap (program_errors SMALL) known_block_parameter, ap (program_errors SMALL) known_block_type, ap (program_errors SMALL) known_next_alone, ap (program_errors SMALL) known_block_breaks, ap (program_errors SMALL) known_two_blocks, ap (program_errors SMALL) known_block_in_loop, ap (program_errors SMALL) known_dead_entry, ap (program_errors SMALL) known_super_block, ap (program_errors SMALL) known_safe_break)
+blocks_pin_variables = (ap (program_errors SMALL) known_block_stays, ap (program_errors SMALL) known_after_block, ap (program_errors SMALL) known_block_parameter, ap (program_errors SMALL) known_block_type, ap (program_errors SMALL) known_next_alone, ap (program_errors SMALL) known_block_breaks, ap (program_errors SMALL) known_two_blocks, ap (program_errors SMALL) known_block_in_loop, ap (program_errors SMALL) known_dead_entry, ap (program_errors SMALL) known_super_block, ap (program_errors SMALL) known_safe_break)

@@ -3,7 +3,7 @@ use Rattle.std.proofs.Common.{◌≡◌, ap}
 use Rattle.srb_judgement.specs.Bodies.{program_errors}
 use Rattle.srb_judgement.specs.ExampleLanguage.{SMALL}
 use Rattle.srb_judgement.specs.ExampleTrees.{source, tree_of}
-use Rattle.srb_judgement.specs.ExamplesOfOperators.{OperatorsAreCalls, BothSidesHaveTypes, OperatorsAssign, ReceiversAreJudgedOnce, WritersAreCalls, SUM, MINUS, DIFFERS, NOT, AND_TYPE, OR_TYPE, DEAD_SIDE_ADDS_NOTHING, SIDES_NARROW, JUMP_BEHIND_OR, PLUS_ASSIGNED, OR_ASSIGNED, AND_ASSIGNED, WHOLE_STATEMENT, IVAR_READ, READ_AND_WRITTEN, RECEIVER_ONCE, INDEX_ONCE, ATTRIBUTE_WRITTEN, ELEMENT_WRITTEN, CONSTANT_ASSIGNED, ASSIGNMENT_TYPE}
+use Rattle.srb_judgement.specs.ExamplesOfOperators.{OperatorsAreCalls, BothSidesHaveTypes, OperatorsAssign, ReceiversAreJudgedOnce, WritersAreCalls, SUM, MINUS, DIFFERS, NOT, AND_TYPE, OR_TYPE, DEAD_SIDE_ADDS_NOTHING, SIDES_NARROW, JUMP_AFTER_OR, PLUS_ASSIGNED, OR_ASSIGNED, AND_ASSIGNED, WHOLE_STATEMENT, IVAR_READ, READ_AND_WRITTEN, RECEIVER_ONCE, INDEX_ONCE, ATTRIBUTE_WRITTEN, ELEMENT_WRITTEN, CONSTANT_ASSIGNED, ASSIGNMENT_TYPE}
 use Rattle.srb_judgement.specs.Judgements.{part_at, part_of, errors_of}
 use Rattle.rb_tree.specs.declared.syntax.Node.{Node}
 use Rattle.rb_tree.specs.declared.syntax.Tree.{Tree}
@@ -37,12 +37,12 @@ known_dead_side_adds_nothing = simp tree-part
 known_sides_narrow : part_of SMALL (SIDES_NARROW Node Tree (source tree_of)) ≡ SIDES_NARROW KNOWN KNOWN (source (part_at SMALL))
 known_sides_narrow = simp tree-part
 
-known_jump_behind_or : part_of SMALL (JUMP_BEHIND_OR Node Tree (source tree_of)) ≡ JUMP_BEHIND_OR KNOWN KNOWN (source (part_at SMALL))
-known_jump_behind_or = simp tree-part
+known_jump_after_or : part_of SMALL (JUMP_AFTER_OR Node Tree (source tree_of)) ≡ JUMP_AFTER_OR KNOWN KNOWN (source (part_at SMALL))
+known_jump_after_or = simp tree-part
 
 pub both_sides_have_types : BothSidesHaveTypes
 unfolding errors_of part_at
-both_sides_have_types = (ap (program_errors SMALL) known_and_type, ap (program_errors SMALL) known_or_type, ap (program_errors SMALL) known_dead_side_adds_nothing, ap (program_errors SMALL) known_sides_narrow, ap (program_errors SMALL) known_jump_behind_or)
+both_sides_have_types = (ap (program_errors SMALL) known_and_type, ap (program_errors SMALL) known_or_type, ap (program_errors SMALL) known_dead_side_adds_nothing, ap (program_errors SMALL) known_sides_narrow, ap (program_errors SMALL) known_jump_after_or)
 
 known_plus_assigned : part_of SMALL (PLUS_ASSIGNED Node Tree (source tree_of)) ≡ PLUS_ASSIGNED KNOWN KNOWN (source (part_at SMALL))
 known_plus_assigned = simp tree-part

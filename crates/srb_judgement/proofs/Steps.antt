@@ -51,7 +51,7 @@ unseen_new L x ty (name ∷ names) e =
 
 -- ---- outer variables
 
--- a block that was judged, with these assignments behind it
+-- a block that was judged, with these assignments after it
 abbrev pub with_assigned : BlockJudged Ty → List (Row Ty) → BlockJudged Ty
 with_assigned b rows = record { ty = b.ty; breaks = b.breaks; state = record b.state { assigned = rows } }
 
@@ -124,9 +124,9 @@ pushed f [] x = refl
 pushed f (y ∷ xs) x = ap (λ rest. f y ∷ rest) (pushed f xs x)
 
 -- arguments with one more by its place
-pub value_behind : (a all : arguments.Arguments) (g : given.Given) (s : State Ty) → all.positional ≡ a.positional ++ g ∷ [] → all.keys ≡ a.keys →
+pub value_last : (a all : arguments.Arguments) (g : given.Given) (s : State Ty) → all.positional ≡ a.positional ++ g ∷ [] → all.keys ≡ a.keys →
     seen_arguments all s ≡ record { positional = map seen_given a.positional ++ seen_given g ∷ []; keys = map seen_named a.keys; state = s }
-value_behind a all g s p k = λ j. record {
+value_last a all g s p k = λ j. record {
   positional = (ap (λ xs. map seen_given xs) p ∙ pushed seen_given a.positional g) j;
   keys = map seen_named (k j);
   state = s;

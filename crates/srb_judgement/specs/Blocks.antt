@@ -28,7 +28,7 @@ abbrev pub parameter_names : {P : Type 0} → Block P → List (List ℕ)
 parameter_names b = map placed_name b.parameters
 
 module _ {T : Type 0} where
-  -- "Behind a block call the environment is that at the block's entry." "Behind a block call whose entry isn't live the environment is that
+  -- "After a block call the environment is that at the block's entry." "After a block call whose entry isn't live the environment is that
   -- at the block's end."
   abbrev pub after_block : Environment T → Environment T → Environment T
   after_block (Live rows) end = Live rows

@@ -142,18 +142,18 @@ module _ {T X : Type 0} (L : Language T X) where
 
   -- ---- parameters
 
-  -- a default value "must be a subtype of its parameter, else 7002 with the method's name"; "Behind a default value the environment is the
-  -- join of those before and behind it."
+  -- a default value "must be a subtype of its parameter, else 7002 with the method's name"; "After a default value the environment is the
+  -- join of those before and after it."
   abbrev pub default_left : List ℕ → List ℕ → T → Span → Environment T → Judged T → State T
   default_left method name ty span before j =
       unless_error (L.is_sub j.ty ty) (wrong_default L span name method ty j.ty) (moved (joined L before j.state.environment) j.state)
 
-  abbrev pub behind_default : List ℕ → List ℕ → T → Span → State T → Judged T → State T
-  behind_default method name ty span before j = default_left method name ty span before.environment j
+  abbrev pub after_default : List ℕ → List ℕ → T → Span → State T → Judged T → State T
+  after_default method name ty span before j = default_left method name ty span before.environment j
 
   abbrev pub with_default : List ℕ → List ℕ → T → Option (Part T X) → Context T → State T → State T
   with_default method name ty None c s = s
-  with_default method name ty (Some d) c s = behind_default method name ty d.it.span s (d.it.judge c s)
+  with_default method name ty (Some d) c s = after_default method name ty d.it.span s (d.it.judge c s)
 
   abbrev pub declared_by : Option (Part T X) → List (List ℕ)
   declared_by None = []

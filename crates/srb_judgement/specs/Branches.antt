@@ -71,7 +71,7 @@ module _ {T X : Type 0} (L : Language T X) where
   if_judged which condition body arms otherwise c s =
       if_after body arms otherwise condition.it.declares c (turned which (condition.test c s))
 
-  -- a statement with `if` or `unless` behind it. The condition is judged first, but stands later in the text.
+  -- a statement with `if` or `unless` after it. The condition is judged first, but stands later in the text.
   abbrev pub modified_if : syntax.Test → Part T X → Part T X → Run T
   modified_if which statement condition c s =
       if_after statement [] None [] c (turned which (condition.test (seeing statement.it.declares c) s))

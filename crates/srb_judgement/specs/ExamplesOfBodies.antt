@@ -183,10 +183,10 @@ WRONG_DEFAULT N P s =
       ensure = None;
     }) (at 54 76))) ∷ [])) (at 0 81))) ∷ [])
 
--- behind it the environment is the join of those before and behind it
+-- after it the environment is the join of those before and after it
 -- `class A; def f(a = (x = 1), d: x); T.reveal_type(x); end; end`
-abbrev pub BEHIND_DEFAULT : Program
-BEHIND_DEFAULT N P s =
+abbrev pub AFTER_DEFAULT : Program
+AFTER_DEFAULT N P s =
     s.body 0 61
     ((s.make (Node-F.Class (record { name = codes "A"; span = at 6 7 } ∷ []) None (s.body 9 56 ((s.make (Node-F.Def None false (codes "f")
     (at 13 14) (record {
@@ -241,7 +241,7 @@ EARLIER_PARAMETERS N P s =
 abbrev pub DefaultsAreJudged : Type 0
 DefaultsAreJudged =
     (Reports WRONG_DEFAULT (error (at 64 67) 7002 (codes "argument a of f expects Integer, found String") ∷ []))
-    × (Reports BEHIND_DEFAULT (error (at 13 14) 7017 (codes "method f has no sig") ∷ error (at 35 51) 7014 (codes
+    × (Reports AFTER_DEFAULT (error (at 13 14) 7017 (codes "method f has no sig") ∷ error (at 35 51) 7014 (codes
     "type is T.nilable(Integer)") ∷ []))
     × (Reports EARLIER_PARAMETERS (error (at 13 14) 7017 (codes "method f has no sig") ∷ error (at 33 34) 7003 (codes
     "method g does not exist on A") ∷ []))
@@ -273,8 +273,8 @@ LENGTH_OF_NIL N P s =
 
 -- unreachable code is reported once
 -- `def f; return 1; if f; 2; end; 3; end`
-abbrev pub BEHIND_RETURN : Program
-BEHIND_RETURN N P s =
+abbrev pub AFTER_A_RETURN : Program
+AFTER_A_RETURN N P s =
     s.body 0 37
     ((s.make (Node-F.Def None false (codes "f") (at 4 5) [] (record {
       body = (s.body 7 32 ((s.make (Node-F.Jump jump.Return (Some (s.whole
@@ -377,7 +377,7 @@ TEXT_AND_ENSURE N P s =
 abbrev pub UsualPrograms : Type 0
 UsualPrograms =
     (Reports LENGTH_OF_NIL (error (at 65 71) 7003 (codes "method length does not exist on NilClass") ∷ []))
-    × (Reports BEHIND_RETURN (error (at 4 5) 7017 (codes "method f has no sig") ∷ error (at 17 29) 7006 (codes "unreachable code") ∷ []))
+    × (Reports AFTER_A_RETURN (error (at 4 5) 7017 (codes "method f has no sig") ∷ error (at 17 29) 7006 (codes "unreachable code") ∷ []))
     × (Reports ARRAY_OF_ANY (error (at 24 25) 7007 (codes
     "expected T.any(T::Array[A], T::Array[String]), found T::Array[T.any(A, String)]") ∷ []))
     × (Reports STRONG (error (at 13 14) 7017 (codes "method m has no sig") ∷ error (at 21 23) 7018 (codes

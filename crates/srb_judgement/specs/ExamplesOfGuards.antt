@@ -114,7 +114,7 @@ CAUGHT_IS_PINNED N P s =
       ensure = None;
     }) (at 18 47))) ∷ [])) (at 9 52))) ∷ [])
 
--- `else` is judged behind the first body, and its type takes the place of the first body's
+-- `else` is judged after the first body, and its type takes the place of the first body's
 -- `n = nil; x = begin; n = 1; rescue; "a"; else; T.reveal_type(n); nil; end; T.reveal_type(x)`
 abbrev pub ELSE_TYPE : Program
 ELSE_TYPE N P s =
@@ -160,7 +160,7 @@ ENDS_JOINED N P s =
     ∷ (s.reveal 70 86 (s.name (codes "x") 84))
     ∷ (s.reveal 88 104 (s.name (codes "n") 102)) ∷ [])
 
--- the patterns are judged in order, and a body begins behind its own
+-- the patterns are judged in order, and a body begins after its own
 -- `n = nil; begin; 1; rescue (n = ArgumentError); T.reveal_type(n); rescue; T.reveal_type(n); end`
 abbrev pub PATTERNS_IN_ORDER : Program
 PATTERNS_IN_ORDER N P s =
@@ -239,7 +239,7 @@ ENSURE_SEES N P s =
       ensure = (Some (s.body 48 64 ((s.reveal 48 64 (s.name (codes "n") 62)) ∷ [])));
     }) (at 9 69))) ∷ [])
 
--- what it assigns has that type behind it; its own type is dropped
+-- what it assigns has that type after it; its own type is dropped
 -- `x = begin; n = 1; ensure; n = "a"; end; T.reveal_type(x); T.reveal_type(n)`
 abbrev pub ENSURE_ASSIGNS : Program
 ENSURE_ASSIGNS N P s =

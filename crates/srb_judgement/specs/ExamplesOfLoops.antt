@@ -84,7 +84,7 @@ LoopsPinVariables =
     × (Reports CONDITION_INSIDE (error (at 20 21) 7001 (codes "variable x stays NilClass in a loop or block, found Integer") ∷ error (at
     45 46) 7001 (codes "variable x stays NilClass in a loop or block, found Integer") ∷ []))
 
--- ---- types of loops and what is behind them
+-- ---- types of loops and what is after them
 
 -- `NilClass`, if the falsehood is live, and the `break` types
 -- `x = while c; break 1; end; T.reveal_type(x); y = while true; break "a"; end; T.reveal_type(y)`
@@ -98,10 +98,10 @@ LOOP_TYPE N P s =
     ((s.make (Node-F.Jump jump.Break (Some (s.text (codes "a") 67)) (at 61 70))) ∷ [])) (at 49 75))))
     ∷ (s.reveal 77 93 (s.name (codes "y") 91)) ∷ [])
 
--- behind it the falsehood is joined with the `break` environments
+-- after it the falsehood is joined with the `break` environments
 -- `x = T.let(nil, T.nilable(Integer)); until x; x = 1; break; end; T.reveal_type(x); y = T.let(nil, T.nilable(String)); while true; break if y; end; T.reveal_type(y)`
-abbrev pub BEHIND_LOOP : Program
-BEHIND_LOOP N P s =
+abbrev pub AFTER_LOOP : Program
+AFTER_LOOP N P s =
     s.body 0 162
     ((s.assign 0 34 (s.name (codes "x") 0) (s.send 4 34 (s.constant (codes "T") 4) (codes "let") 6 ((s.nil 10) ∷ (s.send 15 33 (s.constant
     (codes "T") 15) (codes "nilable") 17 ((s.constant (codes "Integer") 25) ∷ [])) ∷ [])))
@@ -133,7 +133,7 @@ ENDLESS N P s =
 abbrev pub LoopsHaveTypes : Type 0
 LoopsHaveTypes =
     (Reports LOOP_TYPE (error (at 27 43) 7014 (codes "type is T.nilable(Integer)") ∷ error (at 77 93) 7014 (codes "type is String") ∷ []))
-    × (Reports BEHIND_LOOP (error (at 64 80) 7014 (codes "type is Integer") ∷ error (at 146 162) 7014 (codes "type is String") ∷ []))
+    × (Reports AFTER_LOOP (error (at 64 80) 7014 (codes "type is Integer") ∷ error (at 146 162) 7014 (codes "type is String") ∷ []))
     × (Reports NEXT_IN_LOOP (error (at 15 16) 7006 (codes "unreachable code") ∷ []))
     × (Reports ENDLESS (error (at 20 21) 7006 (codes "unreachable code") ∷ []))
 
@@ -152,10 +152,10 @@ BLOCK_STAYS N P s =
       span = at 14 23;
     })) (at 9 23))) ∷ [])
 
--- behind it the environment is that at its entry
+-- after it the environment is that at its entry
 -- `x = T.let(nil, T.nilable(Integer)); each { x = 1 }; T.reveal_type(x)`
-abbrev pub BEHIND_BLOCK : Program
-BEHIND_BLOCK N P s =
+abbrev pub AFTER_BLOCK : Program
+AFTER_BLOCK N P s =
     s.body 0 68
     ((s.assign 0 34 (s.name (codes "x") 0) (s.send 4 34 (s.constant (codes "T") 4) (codes "let") 6 ((s.nil 10) ∷ (s.send 15 33 (s.constant
     (codes "T") 15) (codes "nilable") 17 ((s.constant (codes "Integer") 25) ∷ [])) ∷ [])))
@@ -296,7 +296,7 @@ SAFE_BREAK N P s =
 abbrev pub BlocksPinVariables : Type 0
 BlocksPinVariables =
     (Reports BLOCK_STAYS (error (at 20 21) 7001 (codes "variable x stays NilClass in a loop or block, found Integer") ∷ []))
-    × (Reports BEHIND_BLOCK (error (at 52 68) 7014 (codes "type is T.nilable(Integer)") ∷ []))
+    × (Reports AFTER_BLOCK (error (at 52 68) 7014 (codes "type is T.nilable(Integer)") ∷ []))
     × (Reports BLOCK_PARAMETER (error (at 20 36) 7014 (codes "type is Integer") ∷ error (at 49 65) 7014 (codes "type is NilClass") ∷ []))
     × (Reports BLOCK_TYPE (error (at 0 43) 7014 (codes "type is T::Array[T.any(Integer, String)]") ∷ []))
     × (Reports NEXT_ALONE (error (at 0 35) 7014 (codes "type is T::Array[T.nilable(Integer)]") ∷ []))

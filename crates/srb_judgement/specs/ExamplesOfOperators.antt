@@ -96,10 +96,10 @@ SIDES_NARROW N P s =
     ∷ (s.binary 63 89 (s.call 63 69 (s.name (codes "x") 63) (codes "nil?") 65) binary.Or (at 70 72) (s.reveal 73 89 (s.name (codes "x")
     87))) ∷ [])
 
--- behind it the side that ended adds nothing
+-- after it the side that ended adds nothing
 -- `x = T.let(nil, T.nilable(Integer)); x || (return); T.reveal_type(x)`
-abbrev pub JUMP_BEHIND_OR : Program
-JUMP_BEHIND_OR N P s =
+abbrev pub JUMP_AFTER_OR : Program
+JUMP_AFTER_OR N P s =
     s.body 0 67
     ((s.assign 0 34 (s.name (codes "x") 0) (s.send 4 34 (s.constant (codes "T") 4) (codes "let") 6 ((s.nil 10) ∷ (s.send 15 33 (s.constant
     (codes "T") 15) (codes "nilable") 17 ((s.constant (codes "Integer") 25) ∷ [])) ∷ [])))
@@ -115,7 +115,7 @@ BothSidesHaveTypes =
     ∷ error (at 41 44) 7006 (codes "unreachable code") ∷ error (at 46 62) 7014 (codes "type is Integer") ∷ []))
     × (Reports SIDES_NARROW (error (at 36 61) 7014 (codes "type is T.nilable(Integer)") ∷ error (at 73 89) 7014 (codes "type is Integer")
     ∷ []))
-    × (Reports JUMP_BEHIND_OR (error (at 51 67) 7014 (codes "type is Integer") ∷ []))
+    × (Reports JUMP_AFTER_OR (error (at 51 67) 7014 (codes "type is Integer") ∷ []))
 
 -- ---- assignments with an operator
 

@@ -108,7 +108,7 @@ module _ {T X : Type 0} (L : Language T X) where
     state = j.state;
   }
 
-  -- "A clause's body begins in the environment behind its own patterns."
+  -- "A clause's body begins in the environment after its own patterns."
   abbrev pub clause_body : Rescue (Part T X) → List (List ℕ) → Context T → Rescuing T → State T → Rescuing T
   clause_body r visible c so_far s =
       with_clause_end so_far s.environment (visible ++ (caught_names r.variable ++ r.body.it.declares))
@@ -122,7 +122,7 @@ module _ {T X : Type 0} (L : Language T X) where
       (clause_body r (so_far.visible ++ all_declared (map part_operand r.patterns)) c so_far
       (judge_all (map part_operand r.patterns) (seeing so_far.visible c) (moved so_far.patterns so_far.state)).state)
 
-  -- ---- 4. "An `else` is judged in the environment behind the first body, and its type takes the place of the first body's."
+  -- ---- 4. "An `else` is judged in the environment after the first body, and its type takes the place of the first body's."
 
   abbrev pub with_first : Rescuing T → Environment T → T → Rescuing T
   with_first so_far e ty = record so_far {
@@ -142,7 +142,7 @@ module _ {T X : Type 0} (L : Language T X) where
   -- ---- 6. `ensure`
 
   -- "each variable that it assigns has, in the joined environment and in each jump environment that leaves the whole, the type that it has
-  -- behind the `ensure`"
+  -- after the `ensure`"
   abbrev pub ensured_rows : List (List ℕ) → List (Row T) → List (Row T) → List (Row T)
   ensured_rows [] ensured rows = rows
   ensured_rows (name ∷ names) ensured rows = ensured_rows names ensured (with_type rows name (variable_type L ensured name))

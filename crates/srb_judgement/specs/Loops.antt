@@ -20,18 +20,18 @@ module _ {T X : Type 0} (L : Language T X) where
   joined_breaks e [] = e
   joined_breaks e (l ∷ lefts) = joined_breaks (joined L e (Live l.rows)) lefts
 
-  -- "Behind the loop the environment is the join of the condition's falsehood and the `break` environments; its type is the `T.any` of
+  -- "After the loop the environment is the join of the condition's falsehood and the `break` environments; its type is the `T.any` of
   -- `NilClass`, if the falsehood is live, and the `break` types."
   abbrev pub loop_left : Environment T → List (Left T) → List (Left T) → State T → Judged T
   loop_left falsehood breaks nexts s =
       judged (any_of L (type_if L (is_live falsehood) (nil_type L) ∷ map left_type s.breaks))
       (with_jumps breaks nexts (moved (joined_breaks falsehood s.breaks) s))
 
-  abbrev pub behind_loop : Environment T → State T → Judged T → Judged T
-  behind_loop falsehood before j = loop_left falsehood before.breaks before.nexts j.state
+  abbrev pub after_loop : Environment T → State T → Judged T → Judged T
+  after_loop falsehood before j = loop_left falsehood before.breaks before.nexts j.state
 
   abbrev pub loop_after : Part T X → Context T → State T → Tested T → Judged T
-  loop_after body c before t = behind_loop t.falsehood before (body.it.judge c (moved t.truth t.state))
+  loop_after body c before t = after_loop t.falsehood before (body.it.judge c (moved t.truth t.state))
 
   abbrev pub loop_judged : syntax.Test → Part T X → Part T X → Run T
   loop_judged which condition body c s =

@@ -80,23 +80,23 @@ module _ {T X : Type 0} (L : Language T X) where
   or_test a declared b c s = or_next b (seeing declared c) (a c s)
 
   -- "`a && b` has `T.any(falsy(a), b)` .. where a dead side adds nothing": the environment is the join of the side that ends there and of
-  -- that behind b
-  abbrev pub and_behind : T → Environment T → Judged T → Judged T
-  and_behind ty falsehood b =
+  -- that after b
+  abbrev pub and_whole : T → Environment T → Judged T → Judged T
+  and_whole ty falsehood b =
       judged (L.any (type_if L (is_live falsehood) (falsy L ty)) (type_if L (is_live b.state.environment) b.ty))
       (moved (joined L falsehood b.state.environment) b.state)
 
   abbrev pub and_ended : Tested T → Judged T → Judged T
-  and_ended a b = and_behind a.ty a.falsehood b
+  and_ended a b = and_whole a.ty a.falsehood b
 
   -- "`a || b` has `T.any(truthy(a), b)`"
-  abbrev pub or_behind : T → Environment T → Judged T → Judged T
-  or_behind ty truth b =
+  abbrev pub or_whole : T → Environment T → Judged T → Judged T
+  or_whole ty truth b =
       judged (L.any (type_if L (is_live truth) (truthy L ty)) (type_if L (is_live b.state.environment) b.ty))
       (moved (joined L truth b.state.environment) b.state)
 
   abbrev pub or_ended : Tested T → Judged T → Judged T
-  or_ended a b = or_behind a.ty a.truth b
+  or_ended a b = or_whole a.ty a.truth b
 
   abbrev pub and_after : Run T → Context T → Tested T → Judged T
   and_after b c a = and_ended a (b c (moved a.truth a.state))

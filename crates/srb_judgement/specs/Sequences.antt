@@ -16,7 +16,7 @@ module _ {T : Type 0} where
   and_one types j = record { types = types ++ j.ty ∷ []; state = j.state }
 
 module _ {T X : Type 0} where
-  -- each operand is judged in the environment behind the one before it, and what that assigns is visible in it
+  -- each operand is judged in the environment after the one before it, and what that assigns is visible in it
   abbrev pub judge_more : List (Operand T X) → Context T → Several T → Several T
   judge_more [] c so_far = so_far
   judge_more (o ∷ rest) c so_far = judge_more rest (seeing o.declares c) (and_one so_far.types (o.judge c so_far.state))

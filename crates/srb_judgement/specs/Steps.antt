@@ -103,7 +103,7 @@ HiddenAfter names old new = (other : List ℕ) → own_pin new other ≡ hidden_
 
 -- ---- loops and blocks, by the context of the code
 
--- the state behind a block, with what was set aside
+-- the state after a block, with what was set aside
 abbrev pub put_back : kept.Context → List (List ℕ) → State Ty → State Ty → State Ty
 put_back x parameters before s = record s {
   environment = after_block before.environment s.environment;

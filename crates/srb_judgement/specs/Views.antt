@@ -89,12 +89,12 @@ seen_state s = record {
   errors = s.errors;
 }
 
--- a condition, and the state behind it
+-- a condition, and the state after it
 abbrev pub seen_tested : tested.Tested → State Ty → Tested Ty
 seen_tested t s =
     record { ty = t.ty; truth = seen_environment t.truth; falsehood = seen_environment t.falsehood; state = s }
 
--- the same condition without the environment of the state behind it, which the code leaves open
+-- the same condition without the environment of the state after it, which the code leaves open
 abbrev pub settled : Tested Ty → Tested Ty
 settled t = record t { state = moved Silent t.state }
 
@@ -109,7 +109,7 @@ seen_named n = record { name = n.name; ty = n.ty; span = n.span }
 abbrev pub seen_block : block.GivenBlock → GivenBlock Ty
 seen_block b = record { names = b.names; ty = b.ty }
 
--- arguments, and the state behind them
+-- arguments, and the state after them
 abbrev pub seen_arguments : arguments.Arguments → State Ty → Arguments Ty
 seen_arguments a s = record { positional = map seen_given a.positional; keys = map seen_named a.keys; state = s }
 
@@ -175,6 +175,6 @@ seen_aside a = record {
   errors = [];
 }
 
--- a block that was judged, and the state behind it
+-- a block that was judged, and the state after it
 abbrev pub seen_block_judged : block_judged.BlockJudged → State Ty → BlockJudged Ty
 seen_block_judged b s = record { ty = b.ty; breaks = b.breaks; state = s }

@@ -107,7 +107,7 @@ pub fn to_instance_variable<L: Language>(
     )
 }
 
-/// Arguments with a value of this type, which stands at this place, behind them.
+/// Arguments with a value of this type, which stands at this place, after them.
 fn with_value(arguments: Arguments, place: Span, ty: &Ty) -> Result<Arguments, NoMemory>
     ensures positional { IfOk result (λ all. all.positional ≡ arguments.positional ++ record { ty = ty.now; span = place } ∷ []) }
     ensures keys { IfOk result (λ all. all.keys ≡ arguments.keys) }

@@ -221,7 +221,7 @@ fn left_types(alloc: Global, lefts: &[Left]) -> Result<Items<Ty>, NoMemory>
     Ok(types)
 }
 
-/// The environment behind a block call: that at the block's entry, or that at its end where the entry isn't live.
+/// The environment after a block call: that at the block's entry, or that at its end where the entry isn't live.
 fn after_block(entry: Environment, end: Environment) -> Environment
     ensures { seen_environment result ≡ spec.after_block (seen_environment entry) (seen_environment end) }
 {

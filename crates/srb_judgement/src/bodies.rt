@@ -159,7 +159,7 @@ pub fn param_type<L: Language>(language: &L, params: &[Typed], name: &Name) -> R
     Ok(language.untyped())
 }
 
-/// Goes behind the default value of a parameter, which has this type and stands at this place, with the type of the parameter and the
+/// Goes after the default value of a parameter, which has this type and stands at this place, with the type of the parameter and the
 /// environment before it.
 pub fn leave_default<L: Language>(
     alloc: Global,
@@ -174,8 +174,8 @@ pub fn leave_default<L: Language>(
 ) -> Result<(), NoMemory>
     ensures { OnOk result (seen_state state.new ≡ spec.default_left (L.the language.now) method.now parameter.now expected.now place (seen_environment before) (judged ty.now (seen_state state.old))) }
 {
-    let behind = state.take_environment();
-    state.environment = joined(alloc, language, before, behind)?;
+    let after = state.take_environment();
+    state.environment = joined(alloc, language, before, after)?;
     if language.is_sub(ty, expected) {
         Ok(())
     } else {

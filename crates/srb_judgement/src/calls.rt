@@ -96,7 +96,7 @@ pub fn call_with_block<L: Language>(
     answered(alloc, language, answer, breaks.as_slice(), state)
 }
 
-/// Behind a call by `&.`, the environment is the join of those before and after its arguments.
+/// After a call by `&.`, the environment is the join of those before and after its arguments.
 pub fn join_before<L: Language>(
     alloc: Global,
     language: &L,
@@ -106,8 +106,8 @@ pub fn join_before<L: Language>(
 ) -> Result<(), NoMemory>
     ensures { OnOk result (judged ty.now (seen_state state.new) ≡ spec.joined_before (L.the language.now) (seen_environment before) (judged ty.now (seen_state state.old))) }
 {
-    let behind = state.take_environment();
-    state.environment = joined(alloc, language, before, behind)?;
+    let after = state.take_environment();
+    state.environment = joined(alloc, language, before, after)?;
     Ok(())
 }
 

@@ -42,11 +42,11 @@ pub fn with_end<L: Language>(
     ensures ends { IfOk result (λ e. seen_ends e ≡ spec.with_end (L.the language.now) (seen_ends ends) (judged ty (seen_state state.old))) }
     ensures state { OnOk result (seen_state state.new ≡ moved Silent (seen_state state.old)) }
 {
-    let behind = state.take_environment();
-    let any = any_if(alloc, language, &ends.ty, behind.is_live(), ty)?;
+    let after = state.take_environment();
+    let any = any_if(alloc, language, &ends.ty, after.is_live(), ty)?;
     Ok(Ends {
         ty: any,
-        environment: joined(alloc, language, ends.environment, behind)?,
+        environment: joined(alloc, language, ends.environment, after)?,
     })
 }
 
@@ -55,15 +55,15 @@ pub fn with_first_end<L: Language>(
     alloc: Global,
     language: &L,
     ends: Ends,
-    behind: Environment,
+    after: Environment,
     ty: Ty,
 ) -> Result<Ends, NoMemory>
-    ensures { IfOk result (λ e. seen_ends e ≡ spec.with_first_end (L.the language.now) (seen_ends ends) (seen_environment behind) ty) }
+    ensures { IfOk result (λ e. seen_ends e ≡ spec.with_first_end (L.the language.now) (seen_ends ends) (seen_environment after) ty) }
 {
-    let any = any_if(alloc, language, &ends.ty, behind.is_live(), ty)?;
+    let any = any_if(alloc, language, &ends.ty, after.is_live(), ty)?;
     Ok(Ends {
         ty: any,
-        environment: joined(alloc, language, behind, ends.environment)?,
+        environment: joined(alloc, language, after, ends.environment)?,
     })
 }
 

@@ -253,7 +253,7 @@ pub fn names_ensured(
     with_seen(context, own, assigns)
 }
 
-/// The map in which these variables have the types that they have behind an `ensure`.
+/// The map in which these variables have the types that they have after an `ensure`.
 fn ensured_rows<L: Language>(
     language: &L,
     names: &[Name],
@@ -270,7 +270,7 @@ fn ensured_rows<L: Language>(
     Ok(all)
 }
 
-/// The environment in which these variables have the types that they have behind an `ensure`.
+/// The environment in which these variables have the types that they have after an `ensure`.
 fn ensured_environment<L: Language>(
     language: &L,
     names: &[Name],
@@ -288,7 +288,7 @@ fn ensured_environment<L: Language>(
     }
 }
 
-/// The jump environments in which these variables have the types that they have behind an `ensure`.
+/// The jump environments in which these variables have the types that they have after an `ensure`.
 fn ensured_lefts<L: Language>(
     alloc: Global,
     language: &L,
@@ -340,9 +340,9 @@ pub fn end_ensure<L: Language>(
     ensures { IfOk result (λ r. judged r (seen_state state.new) ≡ spec.ensured_whole (L.the language.now) (seen_state state.old).environment names.now (seen_ends ends).ty (seen_ends ends).environment (map seen_left jumps.breaks) (map seen_left jumps.nexts) (seen_state state.old)) }
 {
     let Ends { ty, environment } = ends;
-    let behind = state.take_environment();
+    let after = state.take_environment();
     let own = std::mem::replace(&mut state.jumps, no_jumps(alloc));
-    match behind {
+    match after {
         Environment::Live(rows) => {
             state.jumps = ensured_jumps(alloc, language, names, &rows, &jumps, own)?;
             state.environment = ensured_environment(language, names, &rows, environment)?;
@@ -356,7 +356,7 @@ pub fn end_ensure<L: Language>(
     }
 }
 
-/// Leaves a guard: its jumps and assignments stand behind those before it.
+/// Leaves a guard: its jumps and assignments stand after those before it.
 pub fn leave_guard<L: Language>(
     language: &L,
     aside: Aside,
@@ -370,13 +370,13 @@ pub fn leave_guard<L: Language>(
         jumps: Jumps { breaks, nexts },
         assigned,
     } = aside;
-    put_behind(breaks, &mut state.jumps.breaks)?;
-    put_behind(nexts, &mut state.jumps.nexts)?;
-    put_behind(assigned, &mut state.assigned)
+    put_after(breaks, &mut state.jumps.breaks)?;
+    put_after(nexts, &mut state.jumps.nexts)?;
+    put_after(assigned, &mut state.assigned)
 }
 
-/// Puts items behind others.
-fn put_behind<T: Drop>(front: Items<T>, items: &mut Items<T>) -> Result<(), NoMemory>
+/// Puts items after others.
+fn put_after<T: Drop>(front: Items<T>, items: &mut Items<T>) -> Result<(), NoMemory>
     ensures { OnOk result (items.new ≡ front ++ items.old) }
 {
     let own = std::mem::replace(items, front);

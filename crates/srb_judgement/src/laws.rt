@@ -157,7 +157,7 @@ pub fn loops_pin_variables()
     ensures { LoopsPinVariables }
 {}
 
-/// Types of loops and what is behind them.
+/// Types of loops and what is after them.
 #[tactic(auto, using(crate::proofs::ExamplesOfLoops::loops_have_types))]
 pub fn loops_have_types()
     ensures { LoopsHaveTypes }

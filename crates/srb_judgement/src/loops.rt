@@ -131,7 +131,7 @@ fn joined_breaks<L: Language>(
     Ok(all)
 }
 
-/// The type of a loop, behind its body, with the falsehood of its condition and the jumps of what is around.
+/// The type of a loop, after its body, with the falsehood of its condition and the jumps of what is around.
 pub fn loop_left<L: Language>(
     alloc: Global,
     language: &L,

@@ -162,9 +162,9 @@ pub fn saying<L: Language>(
 ) -> Result<Tested, NoMemory>
     ensures { IfOk result (λ t. settled (seen_tested t (seen_state state.new)) ≡ settled (spec.saying (L.the language.now) (seen_says says.now) (judged ty (seen_state state.old)))) }
 {
-    let behind = state.take_environment();
-    let truth = truth_side(alloc, language, says, behind.copied(alloc)?)?;
-    let falsehood = falsehood_side(alloc, language, says, behind)?;
+    let after = state.take_environment();
+    let truth = truth_side(alloc, language, says, after.copied(alloc)?)?;
+    let falsehood = falsehood_side(alloc, language, says, after)?;
     Ok(Tested {
         ty,
         truth,

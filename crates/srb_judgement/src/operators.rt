@@ -70,8 +70,8 @@ fn left_truthy<L: Language>(
     Ok(type_if(language, truth.is_live(), truthy(alloc, language, ty)?))
 }
 
-/// `a && b` behind b, as a value, with the type and the falsehood of a, and the type of b.
-pub fn and_behind<L: Language>(
+/// `a && b` after b, as a value, with the type and the falsehood of a, and the type of b.
+pub fn and_whole<L: Language>(
     alloc: Global,
     language: &L,
     left: &Ty,
@@ -79,17 +79,17 @@ pub fn and_behind<L: Language>(
     right: Ty,
     state: &mut State,
 ) -> Result<Ty, NoMemory>
-    ensures { IfOk result (λ r. judged r (seen_state state.new) ≡ spec.and_behind (L.the language.now) left.now (seen_environment falsehood) (judged right (seen_state state.old))) }
+    ensures { IfOk result (λ r. judged r (seen_state state.new) ≡ spec.and_whole (L.the language.now) left.now (seen_environment falsehood) (judged right (seen_state state.old))) }
 {
     let first = left_falsy(alloc, language, left, &falsehood)?;
-    let behind = state.take_environment();
-    let ty = any_if(alloc, language, &first, behind.is_live(), right)?;
-    state.environment = joined(alloc, language, falsehood, behind)?;
+    let after = state.take_environment();
+    let ty = any_if(alloc, language, &first, after.is_live(), right)?;
+    state.environment = joined(alloc, language, falsehood, after)?;
     Ok(ty)
 }
 
-/// `a || b` behind b, as a value, with the type and the truth of a, and the type of b.
-pub fn or_behind<L: Language>(
+/// `a || b` after b, as a value, with the type and the truth of a, and the type of b.
+pub fn or_whole<L: Language>(
     alloc: Global,
     language: &L,
     left: &Ty,
@@ -97,12 +97,12 @@ pub fn or_behind<L: Language>(
     right: Ty,
     state: &mut State,
 ) -> Result<Ty, NoMemory>
-    ensures { IfOk result (λ r. judged r (seen_state state.new) ≡ spec.or_behind (L.the language.now) left.now (seen_environment truth) (judged right (seen_state state.old))) }
+    ensures { IfOk result (λ r. judged r (seen_state state.new) ≡ spec.or_whole (L.the language.now) left.now (seen_environment truth) (judged right (seen_state state.old))) }
 {
     let first = left_truthy(alloc, language, left, &truth)?;
-    let behind = state.take_environment();
-    let ty = any_if(alloc, language, &first, behind.is_live(), right)?;
-    state.environment = joined(alloc, language, truth, behind)?;
+    let after = state.take_environment();
+    let ty = any_if(alloc, language, &first, after.is_live(), right)?;
+    state.environment = joined(alloc, language, truth, after)?;
     Ok(ty)
 }
 

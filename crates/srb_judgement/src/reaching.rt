@@ -16,7 +16,7 @@ use crate::types::{falsy, truthy};
 use srb_terms::{NoMemory, Span, Ty};
 use std::alloc::Global;
 
-/// What stands behind an expression of this type: it ends a live environment where the type is `T.noreturn`.
+/// What stands after an expression of this type: it ends a live environment where the type is `T.noreturn`.
 pub fn close<L: Language>(language: &L, ty: &Ty, state: &mut State)
     ensures { judged ty.now (seen_state state.new) ≡ spec.closed (L.the language.now) (judged ty.now (seen_state state.old)) }
 {
@@ -69,7 +69,7 @@ pub fn not_tested<L: Language>(
     })
 }
 
-/// What was judged as a value, as a condition: both sides are what stands behind it.
+/// What was judged as a value, as a condition: both sides are what stands after it.
 pub fn both_sides(alloc: Global, ty: Ty, state: &mut State) -> Result<Tested, NoMemory>
     ensures { IfOk result (λ t. settled (seen_tested t (seen_state state.new)) ≡ settled (spec.both_sides (judged ty (seen_state state.old)))) }
 {

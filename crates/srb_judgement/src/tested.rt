@@ -3,7 +3,7 @@
 use crate::environments::Environment;
 use srb_terms::Ty;
 
-/// A condition's type, and the environments for truth and for falsehood. The environment of the state behind a condition is left open.
+/// A condition's type, and the environments for truth and for falsehood. The environment of the state after a condition is left open.
 #[derive(Drop)]
 pub struct Tested {
     pub ty: Ty,

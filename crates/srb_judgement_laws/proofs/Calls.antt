@@ -33,7 +33,7 @@ module _ (P : Span → Type 0) where
     abbrev pub IsNamedAt : Named T → Type 0
     IsNamedAt k = P k.span
 
-    -- arguments at fine places, and a fine state behind them
+    -- arguments at fine places, and a fine state after them
     abbrev pub FineArguments : Arguments T → Type 0
     FineArguments a = Each IsGivenAt a.positional × Each IsNamedAt a.keys × Fine P a.state
 

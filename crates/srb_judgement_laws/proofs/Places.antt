@@ -52,7 +52,7 @@ by-default {X = X} Q h k p = go p.default
     go None = h p.kind p.name p.span
     go (Some d) = k p.kind p.name p.span d
 
--- by what stands behind the clauses
+-- by what stands after the clauses
 pub by-guarded : {X : Type 0} (Q : Guarded X → Type 0) →
     ((b : X) (rs : List (Rescue X)) → Q (record { body = b; rescues = rs; otherwise = None; ensure = None })) →
     ((b : X) (rs : List (Rescue X)) (e : X) → Q (record { body = b; rescues = rs; otherwise = None; ensure = Some e })) →

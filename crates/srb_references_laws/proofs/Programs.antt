@@ -28,7 +28,7 @@ use Rattle.rb_tree.specs.declared.syntax.Node.TheViews.{roll-Node, out-roll-Node
 use Rattle.rb_tree.specs.declared.syntax.Node.TheVariants.{rolls-Body, rolls-Modified, rolls-Jump, rolls-Assign, rolls-OperatorAssign, rolls-Command, rolls-Conditional, rolls-Binary, rolls-Unary, rolls-Post, rolls-Whole, rolls-Float, rolls-Text, rolls-Symbol, rolls-InstanceVariable, rolls-Constant, rolls-TopConstant, rolls-SelfWord, rolls-Nil, rolls-True, rolls-False, rolls-Name, rolls-Call, rolls-Yield, rolls-Super, rolls-Array, rolls-Hash, rolls-Parens, rolls-If, rolls-While, rolls-Case, rolls-Begin, rolls-Class, rolls-Module, rolls-Def}
 use Rattle.rb_rules.specs.Spans.{across, last_of, suffix_span, block_or}
 use Rattle.rb_rules.specs.Forms.{Site}
-use Rattle.rb_rules.specs.Grammar.{posted, named, named_call, body_of as body_tree, front_span, span_of_arguments, Then, BarNames, Bars, Path as DerivesPath, MethodName, Owner, Parted, RescueVariable, DerivesBody, DerivesMore, DerivesStatement, DerivesModified, DerivesSimple, DerivesValue, DerivesTarget, DerivesCallee, DerivesArguments, DerivesArgument, DerivesTerm, DerivesLevel, DerivesPrefixed, DerivesOperand, DerivesSuffix, DerivesIndex, DerivesEnd, DerivesBrackets, DerivesBlockBehind, DerivesBlock, DerivesDo, DerivesPrimary, DerivesPieces, DerivesElements, DerivesPairs, DerivesPair, DerivesArms, DerivesElse, DerivesSubject, DerivesWhens, DerivesPatterns, DerivesGuarded, DerivesRescues, DerivesRaised, DerivesEnsure, DerivesDeclaration, DerivesMethod, DerivesParameters, DerivesParameterList, DerivesParameter}
+use Rattle.rb_rules.specs.Grammar.{posted, named, named_call, body_of as body_tree, front_span, span_of_arguments, Then, BarNames, Bars, Path as DerivesPath, MethodName, Owner, Parted, RescueVariable, DerivesBody, DerivesMore, DerivesStatement, DerivesModified, DerivesSimple, DerivesValue, DerivesTarget, DerivesCallee, DerivesArguments, DerivesArgument, DerivesTerm, DerivesLevel, DerivesPrefixed, DerivesOperand, DerivesSuffix, DerivesIndex, DerivesEnd, DerivesBrackets, DerivesBlockAfter, DerivesBlock, DerivesDo, DerivesPrimary, DerivesPieces, DerivesElements, DerivesPairs, DerivesPair, DerivesArms, DerivesElse, DerivesSubject, DerivesWhens, DerivesPatterns, DerivesGuarded, DerivesRescues, DerivesRaised, DerivesEnsure, DerivesDeclaration, DerivesMethod, DerivesParameters, DerivesParameterList, DerivesParameter}
 use Rattle.rb_rules.specs.Grammar.Then.{Word, Line, LineWord}
 use Rattle.rb_rules.specs.Grammar.BarNames.{LastBar, MoreBars}
 use Rattle.rb_rules.specs.Grammar.Bars.{NoBars, SomeBars}
@@ -53,7 +53,7 @@ use Rattle.rb_rules.specs.Grammar.DerivesSuffix.{Calls, Within as WithinName, In
 use Rattle.rb_rules.specs.Grammar.DerivesIndex.{Index}
 use Rattle.rb_rules.specs.Grammar.DerivesEnd.{NoComma, LastComma}
 use Rattle.rb_rules.specs.Grammar.DerivesBrackets.{NoBrackets, EmptyBrackets, Brackets}
-use Rattle.rb_rules.specs.Grammar.DerivesBlockBehind.{NoBlock, SomeBlock}
+use Rattle.rb_rules.specs.Grammar.DerivesBlockAfter.{NoBlock, SomeBlock}
 use Rattle.rb_rules.specs.Grammar.DerivesBlock.{Braces, DoEnd}
 use Rattle.rb_rules.specs.Grammar.DerivesDo.{NoDo, SomeDo}
 use Rattle.rb_rules.specs.Grammar.DerivesPrimary.{WholeNumber, FloatNumber, SignedWhole, SignedFloat, String, SymbolName, InstanceName, ConstantName, FromTop, SelfPlace, NilPlace, TruePlace, FalsePlace, NameAlone, CallWithBrackets, CallWithBlock, Yields, Supers, EmptyArray, SomeArray, EmptyHash, SomeHash, InParens, Branches, Loops, Guards, Cases}
@@ -66,7 +66,7 @@ use Rattle.rb_rules.specs.Grammar.DerivesElse.{NoElse, SomeElse}
 use Rattle.rb_rules.specs.Grammar.DerivesSubject.{NoSubject, SomeSubject}
 use Rattle.rb_rules.specs.Grammar.DerivesWhens.{NoWhen, MoreWhens}
 use Rattle.rb_rules.specs.Grammar.DerivesPatterns.{LastPattern, MorePatterns}
-use Rattle.rb_rules.specs.Grammar.Parted.{BehindNothing, BehindSeparator}
+use Rattle.rb_rules.specs.Grammar.Parted.{AfterNothing, AfterSeparator}
 use Rattle.rb_rules.specs.Grammar.RescueVariable.{NoVariable, Bound}
 use Rattle.rb_rules.specs.Grammar.DerivesGuarded.{Unrescued, Rescued}
 use Rattle.rb_rules.specs.Grammar.DerivesRescues.{NoRescue, MoreRescues}
@@ -105,8 +105,8 @@ end-of (NoComma _ _ g) = st.gap g
 end-of (LastComma c _ _ _ g) = push c (st.gap g)
 
 parted : {before : Tree} {xs ys : List Token} → Parted before xs ys → Within xs ys
-parted (BehindNothing _) = stay
-parted (BehindSeparator _ t _ _) = push t stay
+parted (AfterNothing _) = stay
+parted (AfterSeparator _ t _ _) = push t stay
 
 own : {b : Bool} {xs ys : List Token} → Owner b xs ys → Within xs ys
 own (Other _) = stay
@@ -334,7 +334,7 @@ module _ (tokens : List Token) where
     value (Computes _ _ o operator x v _ _ _ d _ k) i = let a = target d i in let u = past o a.0 in let b = value k (go i u) in
         (go u b.0, made _ (Node-F.OperatorAssign x operator o.span v (across (span_of x) (span_of v))) (rolls-OperatorAssign _ _ _ _ _) (a.1, b.1) tt tt)
     value (Command _ _ x given b _ _ _ _ d _ e _ k _) i =
-        let c = callee d i in let a = arguments e (go i c.0) in let u = go c.0 a.0 in let l = do-behind k (go i u) in
+        let c = callee d i in let a = arguments e (go i c.0) in let u = go c.0 a.0 in let l = do-after k (go i u) in
         (go u l.0, made _ (Node-F.Command x given b (across (span_of x) (block_or (span_of_arguments (span_of x) given) b))) (rolls-Command _ _ _ _) (c.1, a.1, l.1) tt tt)
 
     target : {constants free : Bool} {t : Tree} {xs ys : List Token} → DerivesTarget constants free t xs ys → In xs → Within xs ys × Fine t
@@ -394,7 +394,7 @@ module _ (tokens : List Token) where
 
     suffix-of : {free : Bool} {s : Suffix Tree} {before last : Token} {xs ys : List Token} → DerivesSuffix free s before last xs ys → In xs → Within xs ys × OfSuffix Fine s
     suffix-of (Calls _ _ d n _ last _ _ _ _ xs _ _ _ _ e k _) i =
-        let a = brackets e (past n (past d i)) in let u = push d (push n a.0) in let b = block-behind k (go i u) in
+        let a = brackets e (past n (past d i)) in let u = push d (push n a.0) in let b = block-after k (go i u) in
         (go u b.0, (a.1, b.1))
     suffix-of (WithinName _ _ c n _ xs _ _) i = (push c (push n stay), tt)
     suffix-of (Indexed _ _ _ _ _ _ d) i = let a = index d i in (a.0, a.1)
@@ -410,17 +410,17 @@ module _ (tokens : List Token) where
     brackets (Brackets _ o c given _ ps _ _ _ g d _ k _) i = let a = arguments d (go (past o i) (st.gap g)) in
         (past c (push o (go (st.gap g) (go a.0 (st.gap k)))), a.1)
 
-    block-behind : {free : Bool} {b : Option (Block Tree)} {before last : Token} {xs ys : List Token} → DerivesBlockBehind free b before last xs ys → In xs → Within xs ys × IfThere (OfBlock Fine) b
-    block-behind (NoBlock _ _ _) i = (stay, tt)
-    block-behind (SomeBlock _ _ last _ _ _ d) i = block d i
+    block-after : {free : Bool} {b : Option (Block Tree)} {before last : Token} {xs ys : List Token} → DerivesBlockAfter free b before last xs ys → In xs → Within xs ys × IfThere (OfBlock Fine) b
+    block-after (NoBlock _ _ _) i = (stay, tt)
+    block-after (SomeBlock _ _ last _ _ _ d) i = block d i
 
     block : {free : Bool} {b : Block Tree} {last : Token} {xs ys : List Token} → DerivesBlock free b last xs ys → In xs → Within xs ys × OfBlock Fine b
     block (Braces _ o c _ _ xs _ _ _ k d _) i = let u = bars k in let b = body d (go (past o i) u) in (push o (past c (go u b.0)), b.1)
     block (DoEnd o c _ _ xs _ _ _ k d _) i = let u = bars k in let b = body d (go (past o i) u) in (push o (past c (go u b.0)), b.1)
 
-    do-behind : {free : Bool} {b : Option (Block Tree)} {xs ys : List Token} → DerivesDo free b xs ys → In xs → Within xs ys × IfThere (OfBlock Fine) b
-    do-behind (NoDo _ _) i = (stay, tt)
-    do-behind (SomeDo _ _ _ _ _ _ d) i = block d i
+    do-after : {free : Bool} {b : Option (Block Tree)} {xs ys : List Token} → DerivesDo free b xs ys → In xs → Within xs ys × IfThere (OfBlock Fine) b
+    do-after (NoDo _ _) i = (stay, tt)
+    do-after (SomeDo _ _ _ _ _ _ d) i = block d i
 
     primary : {free : Bool} {t : Tree} {last : Token} {xs ys : List Token} → DerivesPrimary free t last xs ys → In xs → Within xs ys × Fine t
     primary (WholeNumber _ t w xs _) i = (push t stay, made _ (Node-F.Whole None w t.span) (rolls-Whole _ _ _) tt tt tt)
@@ -440,7 +440,7 @@ module _ (tokens : List Token) where
     primary (FalsePlace _ t xs _) i = (push t stay, made _ (Node-F.False t.span) (rolls-False _) tt tt tt)
     primary (NameAlone _ t w xs _) i = (push t stay, made _ (Node-F.Name w t.span) (rolls-Name _ _) tt tt tt)
     primary (CallWithBrackets _ t _ last w given b xs _ _ _ d e _) i =
-        let a = brackets d (past t i) in let v = push t a.0 in let c = block-behind e (go i v) in
+        let a = brackets d (past t i) in let v = push t a.0 in let c = block-after e (go i v) in
         (go v c.0, made _ (Node-F.Call w t.span (Some given) b (across t.span last.span)) (rolls-Call _ _ _ _ _) (a.1, c.1) tt tt)
     primary (CallWithBlock _ t last w b xs _ _ d) i = let a = block d (past t i) in
         (push t a.0, made _ (Node-F.Call w t.span None (Some b) (across t.span last.span)) (rolls-Call _ _ _ _ _) (tt, a.1) tt tt)

@@ -17,7 +17,7 @@ use Rattle.srb_table.proofs.Passes.{at-nothing}
 
 -- ---- methods and instance variables
 
--- what is said of one owner's member stands behind what a later declaration says
+-- what is said of one owner's member stands after what a later declaration says
 over : {X : Type 0} (a b : Bool) (said : X) (old later : Option X)
     → option_or later (cond a (cond b (Some said) old) old) ≡ option_or (option_or later (cond a (cond b (Some said) None) None)) old
 over a b said old (Some l) = refl

@@ -8,7 +8,7 @@ use Rattle.std.specs.List.{slice_get}
 use Rattle.std.specs.Ordering.{is_eq, match_ordering, ordering_reverse}
 use Rattle.std.specs.declared.cmp.Ordering.{Ordering}
 use Rattle.std.specs.declared.cmp.Ordering.TheVariants.{Less, Equal, Greater}
-use Rattle.srb_terms.specs.Projects.{File, IsBeforeAll, IsBehindAll, IsProject, bytes_at, path_cmp, put_file}
+use Rattle.srb_terms.specs.Projects.{File, IsBeforeAll, IsAfterAll, IsProject, bytes_at, path_cmp, put_file}
 
 some_same : {X : Type 0} {x y : X} → Some x ≡ Some y → x ≡ y
 some_same {X} {x} same = ap (λ o. unwrap_or o x) same
@@ -23,9 +23,9 @@ same_path p q is = (bytes_eq-Decides p q).0 (texts_ties p q ∙ ap is_eq is)
 other_path : (p q : List ℕ) → path_cmp p q ≡ Greater → bytes_eq q p ≡ false
 other_path p q is = texts_ties q p ∙ ap is_eq (turned p q Greater is)
 
-behind_lower : (p q r : List ℕ) → path_cmp q r ≡ Less → path_cmp p r ≡ Greater → path_cmp p q ≡ Greater
-behind_lower p q r lower behind =
-    turned q p Less (nat_list_cmp_total.trans q r p lower (turned p r Greater behind))
+after_lower : (p q r : List ℕ) → path_cmp q r ≡ Less → path_cmp p r ≡ Greater → path_cmp p q ≡ Greater
+after_lower p q r lower after =
+    turned q p Less (nat_list_cmp_total.trans q r p lower (turned p r Greater after))
 
 before_higher : (p : List ℕ) (file : File) (files : List File) → path_cmp p file.0 ≡ Less → IsBeforeAll file.0 files → IsBeforeAll p files
 before_higher p file [] lower all = tt
@@ -34,40 +34,40 @@ before_higher p file (next ∷ files) lower all =
 
 -- ---- the last file tells of all
 the_only : (p : List ℕ) (file last : File) (n : ℕ) → n ≡ 0 → slice_get (file ∷ []) n ≡ Some last → path_cmp p last.0 ≡ Greater → path_cmp p file.0 ≡ Greater
-the_only p file last zero none is behind = subst (λ (f : File). path_cmp p f.0 ≡ Greater) (sym (some_same is)) behind
-the_only p file last (suc n) none is behind = absurd (omega (arith, none))
+the_only p file last zero none is after = subst (λ (f : File). path_cmp p f.0 ≡ Greater) (sym (some_same is)) after
+the_only p file last (suc n) none is after = absurd (omega (arith, none))
 
-behind_from_last : (p : List ℕ) (files : List File) (last : File) (n : ℕ) → length files ≡ suc n → IsProject files
-    → slice_get files n ≡ Some last → path_cmp p last.0 ≡ Greater → IsBehindAll p files
-behind_from_last p [] last n size ordered is behind = tt
-behind_from_last p (file ∷ []) last n size ordered is behind = (the_only p file last n (omega (arith, size)) is behind, tt)
-behind_from_last p (file ∷ next ∷ files) last zero size ordered is behind = absurd (omega (arith, size))
-behind_from_last p (file ∷ next ∷ files) last (suc n) size ordered is behind =
-    let rest : IsBehindAll p (next ∷ files) = behind_from_last p (next ∷ files) last n (omega (arith, size)) ordered.1 is behind in
-    (behind_lower p file.0 next.0 ordered.0.0 rest.0, rest)
+after_from_last : (p : List ℕ) (files : List File) (last : File) (n : ℕ) → length files ≡ suc n → IsProject files
+    → slice_get files n ≡ Some last → path_cmp p last.0 ≡ Greater → IsAfterAll p files
+after_from_last p [] last n size ordered is after = tt
+after_from_last p (file ∷ []) last n size ordered is after = (the_only p file last n (omega (arith, size)) is after, tt)
+after_from_last p (file ∷ next ∷ files) last zero size ordered is after = absurd (omega (arith, size))
+after_from_last p (file ∷ next ∷ files) last (suc n) size ordered is after =
+    let rest : IsAfterAll p (next ∷ files) = after_from_last p (next ∷ files) last n (omega (arith, size)) ordered.1 is after in
+    (after_lower p file.0 next.0 ordered.0.0 rest.0, rest)
 
-pub IsBehindAll-last : (p : List ℕ) (files : List File) (last : File) → IsProject files
-    → Some last ≡ slice_get files (length files - 1) → path_cmp p last.0 ≡ Greater → IsBehindAll p files
-IsBehindAll-last p [] last ordered is behind = tt
-IsBehindAll-last p (file ∷ files) last ordered is behind =
-    behind_from_last p (file ∷ files) last (length files) refl ordered (ap (slice_get (file ∷ files)) (omega arith) ∙ sym is) behind
+pub IsAfterAll-last : (p : List ℕ) (files : List File) (last : File) → IsProject files
+    → Some last ≡ slice_get files (length files - 1) → path_cmp p last.0 ≡ Greater → IsAfterAll p files
+IsAfterAll-last p [] last ordered is after = tt
+IsAfterAll-last p (file ∷ files) last ordered is after =
+    after_from_last p (file ∷ files) last (length files) refl ordered (ap (slice_get (file ∷ files)) (omega arith) ∙ sym is) after
 
 -- ---- where a file goes
-pub put_file-behind : (p bytes : List ℕ) (front back : List File) → IsBehindAll p front
+pub put_file-after : (p bytes : List ℕ) (front back : List File) → IsAfterAll p front
     → put_file p bytes (front ++ back) ≡ front ++ put_file p bytes back
-put_file-behind p bytes [] back all = refl
-put_file-behind p bytes (file ∷ front) back all =
+put_file-after p bytes [] back all = refl
+put_file-after p bytes (file ∷ front) back all =
     ap (λ o. match_ordering o ((p, bytes) ∷ file ∷ (front ++ back)) ((p, bytes) ∷ (front ++ back)) (file ∷ put_file p bytes (front ++ back))) all.0
-    ∙ ap (λ files. file ∷ files) (put_file-behind p bytes front back all.1)
+    ∙ ap (λ files. file ∷ files) (put_file-after p bytes front back all.1)
 
 append_nil : (files : List File) → files ++ [] ≡ files
 append_nil [] = refl
 append_nil (file ∷ files) = ap (λ rest. file ∷ rest) (append_nil files)
 
-pub put_file-last : (p bytes : List ℕ) (files : List File) → IsBehindAll p files
+pub put_file-last : (p bytes : List ℕ) (files : List File) → IsAfterAll p files
     → put_file p bytes files ≡ insert files (length files) (p, bytes)
 put_file-last p bytes files all =
-    ap (put_file p bytes) (sym (append_nil files)) ∙ put_file-behind p bytes files [] all
+    ap (put_file p bytes) (sym (append_nil files)) ∙ put_file-after p bytes files [] all
     ∙ sym (λ i. take-length files i ++ (p, bytes) ∷ drop-length files i)
 
 -- a file that stands at a place, and the place of one that does not

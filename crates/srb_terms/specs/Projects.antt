@@ -18,10 +18,10 @@ abbrev pub IsBeforeAll : List ℕ → List File → Type 0
 IsBeforeAll path [] = Unit {0}
 IsBeforeAll path (file ∷ files) = (path_cmp path file.0 ≡ Less) × IsBeforeAll path files
 
--- the path stands behind that of each file, in byte order
-abbrev pub IsBehindAll : List ℕ → List File → Type 0
-IsBehindAll path [] = Unit {0}
-IsBehindAll path (file ∷ files) = (path_cmp path file.0 ≡ Greater) × IsBehindAll path files
+-- the path stands after that of each file, in byte order
+abbrev pub IsAfterAll : List ℕ → List File → Type 0
+IsAfterAll path [] = Unit {0}
+IsAfterAll path (file ∷ files) = (path_cmp path file.0 ≡ Greater) × IsAfterAll path files
 
 -- the files stand in byte order of their paths, each path once
 abbrev pub IsProject : List File → Type 0

@@ -46,5 +46,5 @@ pub use ty::{Method, Param, Ty, Tys};
 pub use words::Words;
 pub use world::World;
 
-/// Want of memory, the one answer that no contract rules out.
+/// Out of memory, the one answer that no contract rules out.
 pub type NoMemory = std::alloc::AllocError;

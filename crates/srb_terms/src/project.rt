@@ -1,6 +1,6 @@
 ghost use Rattle.std.specs.Prelude.{◌≡◌, ◌<◌, ◌≤◌, ◌↔◌, ℕ, List, [], ◌∷◌, length, insert, slice_set, bytes_eq, Some, IsTrue, IfOk, IfErr, OnOk, OnErr, if◌then◌else◌};
 ghost use Rattle.std.specs.Option.{option_copied};
-ghost use Rattle.srb_terms.specs.Projects.{IsBehindAll, IsProject, bytes_at, put_file};
+ghost use Rattle.srb_terms.specs.Projects.{IsAfterAll, IsProject, bytes_at, put_file};
 
 use crate::{Name, NoMemory, ProjectFile};
 use std::alloc::Global;
@@ -82,7 +82,7 @@ impl Project {
     }
 
     /// Puts `bytes` at `path`: in the place of the file there, or as a new file in its place in the order. Where the
-    /// path stands behind all others, this takes the time of a push. Without memory the project stays as it was.
+    /// path stands after all others, this takes the time of a push. Without memory the project stays as it was.
     pub fn put(&mut self, path: Name, bytes: Vec<u8>) -> Result<(), NoMemory>
         ensures ok { OnOk result (self.new ≡ put_file path bytes.items self.old) }
         ensures at { OnOk result ((other : List ℕ) → bytes_at other self.new ≡ (if bytes_eq other path then Some bytes.items else bytes_at other self.old)) }
@@ -121,7 +121,7 @@ fn place(files: &[ProjectFile], path: &str) -> Result<usize, usize>
     ensures found { IfOk result (λ i. (i < length files.now) × ((bytes : List ℕ) → put_file path.now bytes files.now ≡ slice_set files.now i (path.now, bytes))) }
     ensures absent { IfErr result (λ i. (i ≤ length files.now) × ((bytes : List ℕ) → put_file path.now bytes files.now ≡ insert files.now i (path.now, bytes))) }
 {
-    if is_behind_all(files, path) {
+    if is_after_all(files, path) {
         return Err(files.len());
     }
     'files: for index in 0..files.len() {
@@ -134,10 +134,10 @@ fn place(files: &[ProjectFile], path: &str) -> Result<usize, usize>
     Err(files.len())
 }
 
-// Whether `path` stands behind each file's path, which the last one tells.
-fn is_behind_all(files: &[ProjectFile], path: &str) -> bool
+// Whether `path` stands after each file's path, which the last one tells.
+fn is_after_all(files: &[ProjectFile], path: &str) -> bool
     requires { IsProject files.now }
-    ensures { IsTrue result → IsBehindAll path.now files.now }
+    ensures { IsTrue result → IsAfterAll path.now files.now }
 {
     match files.last() {
         None => true,

@@ -8,7 +8,7 @@ use Rattle.std.specs.List.{AllByRecursion}
 use Rattle.std.specs.Char.{len_utf8}
 use Rattle.std.specs.Str.{IsCharBoundary}
 use lib.Utf8.{encode, encodes}
-use Rattle.srb_text.specs.Edits.{behind}
+use Rattle.srb_text.specs.Edits.{after}
 use Rattle.srb_text.specs.Laws.{StartsAreBoundaries}
 use Rattle.srb_text.specs.Positions.{byte_len, fitting, len_utf16, IsStart}
 use Rattle.srb_text.proofs.FittingLemmas.{fitting_more, fitting_none}
@@ -35,10 +35,10 @@ boundary_from_start : (text : List ℕ) (at : ℕ) → IsStart text at → IsCha
 boundary_from_start text at s =
     let rest = drop-encodes text at s in
     let none : at + 0 ≡ at = omega arith in
-    let byte : get_or (encodes text) at 0 ≡ get_or (encodes (behind at text)) 0 0 =
+    let byte : get_or (encodes text) at 0 ≡ get_or (encodes (after at text)) 0 0 =
     ap (λ (n : ℕ). get_or (encodes text) n 0) (sym none) ∙ sym (get_or-drop at (encodes text) 0 0) ∙ ap (λ (v : List ℕ). get_or v 0 0) rest in (
       omega (arith, start_within text at s, length-encodes text),
-      λ l h. omega (arith, byte, cut_before (behind at text) (omega (arith, ap length rest, length-drop at (encodes text))) (omega (arith, byte))),
+      λ l h. omega (arith, byte, cut_before (after at text) (omega (arith, ap length rest, length-drop at (encodes text))) (omega (arith, byte))),
     )
 
 follows : (n : ℕ) (bs : List ℕ) → AllByRecursion (λ b. (128 ≤ b) × (b < 192)) bs → n < length bs → (128 ≤ get_or bs n 0) × (get_or bs n 0 < 192)

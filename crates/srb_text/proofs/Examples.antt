@@ -47,13 +47,13 @@ between_both_ends : position_of len_utf16 mixed 2 ≡ at 0 1
 unfolding mixed at
 between_both_ends = refl
 
-behind_both_ends : position_of len_utf16 mixed 3 ≡ at 1 0
+after_both_ends : position_of len_utf16 mixed 3 ≡ at 1 0
 unfolding mixed at
-behind_both_ends = refl
+after_both_ends = refl
 
-behind_a_lone_return : position_of len_utf16 mixed 5 ≡ at 2 0
+after_a_lone_return : position_of len_utf16 mixed 5 ≡ at 2 0
 unfolding mixed at
-behind_a_lone_return = refl
+after_a_lone_return = refl
 
 at_the_text_end : position_of len_utf16 mixed 6 ≡ at 2 1
 unfolding mixed at
@@ -63,6 +63,6 @@ of_no_text : position_of len_utf16 [] 0 ≡ at 0 0
 unfolding at
 of_no_text = refl
 
-behind_the_last_end : position_of len_utf16 text 7 ≡ at 1 0
+after_the_last_end : position_of len_utf16 text 7 ≡ at 1 0
 unfolding text at
-behind_the_last_end = refl
+after_the_last_end = refl

@@ -62,8 +62,8 @@ module _ (f : ℕ → ℕ) where
       omega (arith, ap (sum_by f) parts, sum_by-append f xs (fitting f (sum_by f xs - sum_by f xs) ys), sum_by-fitting-le (sum_by f xs - sum_by f xs) ys)
 
   -- an offset at a start in the second part, or in the first
-  pub start_behind : (at : ℕ) (xs ys : List ℕ) → sum_by f xs ≤ at → sum_by f (fitting f at (xs ++ ys)) ≡ at → sum_by f (fitting f (at - sum_by f xs) ys) ≡ at - sum_by f xs
-  start_behind at xs ys h e =
+  pub start_past : (at : ℕ) (xs ys : List ℕ) → sum_by f xs ≤ at → sum_by f (fitting f at (xs ++ ys)) ≡ at → sum_by f (fitting f (at - sum_by f xs) ys) ≡ at - sum_by f xs
+  start_past at xs ys h e =
       omega (arith, e, ap (sum_by f) (fitting-append_all at xs ys h), sum_by-append f xs (fitting f (at - sum_by f xs) ys))
 
   pub start_before : (at : ℕ) (xs ys : List ℕ) → at < sum_by f xs → sum_by f (fitting f at (xs ++ ys)) ≡ at → sum_by f (fitting f at xs) ≡ at

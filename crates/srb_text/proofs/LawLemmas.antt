@@ -4,7 +4,7 @@ use Rattle.std.proofs.lemmas.Bool.{lt-ltb, le-ltb, cases_lt}
 use Rattle.std.proofs.lemmas.List.Sums.{sum_by-cons, sum_by-append}
 use Rattle.std.specs.List.{sum_by}
 use Rattle.std.specs.Char.{len_utf8}
-use Rattle.srb_text.specs.Edits.{before, behind, replaced}
+use Rattle.srb_text.specs.Edits.{before, after, replaced}
 use Rattle.srb_text.specs.Laws.{LinesAreUnique, StartsEndFronts, IsInsideLineEnd, IsWeight, OffsetsComeBack, PositionsRise, OffsetsRise, OffsetsAreStarts, EmptyEditsKeep, EditsHaveSizes}
 use Rattle.srb_text.specs.Lines.{Line, LINE_FEED, CARRIAGE_RETURN, begins_with_line_feed, lines, IsLineEnding, IsLastLine, IsFirstLine, AreLines}
 use Rattle.srb_text.specs.Positions.{fitting, line_size, byte_len, position_in, offset_in, position_of, offset_of, IsStart, IsAtMost}
@@ -50,7 +50,7 @@ lines_are_unique = λ text ls. (lines_same ls text, λ e. subst (AreLines text) 
 
 pub starts_end_fronts : StartsEndFronts
 starts_end_fronts = λ text at. (
-  λ h. record { front = fitting len_utf8 at text; rest = behind at text; whole = sym (fitting_split len_utf8 at text); len = h },
+  λ h. record { front = fitting len_utf8 at text; rest = after at text; whole = sym (fitting_split len_utf8 at text); len = h },
   λ f. subst (IsStart text) f.len (subst (λ (v : List ℕ). IsStart v (byte_len f.front)) (sym f.whole) (sum_by-fitting-front len_utf8 f.front f.rest)),
 )
 
@@ -58,7 +58,7 @@ pub offsets_are_starts : OffsetsAreStarts
 offsets_are_starts = offset_start
 
 pub empty_edits_keep : EmptyEditsKeep
-empty_edits_keep = λ weight text p. ap (λ (v : List ℕ). v ++ behind (offset_of weight text p) text) (append-nil (before (offset_of weight text p) text)) ∙ fitting_split len_utf8 (offset_of weight text p) text
+empty_edits_keep = λ weight text p. ap (λ (v : List ℕ). v ++ after (offset_of weight text p) text) (append-nil (before (offset_of weight text p) text)) ∙ fitting_split len_utf8 (offset_of weight text p) text
 
 -- more fits into more
 sum_by-fitting-rises : (f w : ℕ → ℕ) (k m : ℕ) (xs : List ℕ) → k ≤ m → sum_by w (fitting f k xs) ≤ sum_by w (fitting f m xs)
@@ -210,10 +210,10 @@ replaced_size text new start end s e ordered =
       arith,
       s,
       e,
-      sum_by-append len_utf8 (before start text ++ new) (behind end text),
+      sum_by-append len_utf8 (before start text ++ new) (after end text),
       sum_by-append len_utf8 (before start text) new,
       ap byte_len (fitting_split len_utf8 end text),
-      sum_by-append len_utf8 (before end text) (behind end text),
+      sum_by-append len_utf8 (before end text) (after end text),
     )
 
 pub edits_have_sizes : EditsHaveSizes

@@ -5,7 +5,7 @@ use Rattle.std.proofs.lemmas.List.{drop-drop, drop_at}
 use Rattle.std.proofs.lemmas.List.Sums.{sum_by-cons, prefix_len-le-length}
 use Rattle.std.specs.List.{sum_by, prefix_len}
 use Rattle.srb_text.specs.Lines.{Line, CARRIAGE_RETURN, ends_line, lines, with_content, with_ending, IsFirstLine, AreLines}
-use Rattle.srb_text.specs.LineStarts.{first_content, starts_behind, line_starts}
+use Rattle.srb_text.specs.LineStarts.{first_content, starts_after, line_starts}
 use Rattle.srb_text.specs.Positions.{fitting, line_size, position_in, offset_in, one}
 use Rattle.srb_text.specs.declared.Pos.{Pos}
 use Rattle.srb_text.proofs.LineLemmas.{AreLines-lines, first_content_last, first_content_first, first_content_take}
@@ -29,11 +29,11 @@ start_step false false a b (l ∷ ls) starts e =
     let same : a + (sum_by one (b ∷ l.content) + sum_by one l.ending) ≡ a + 1 + line_size one l = omega (arith, sum_by-cons one b l.content) in
     ap (λ (v : List ℕ). a ∷ v) (ap (λ (k : ℕ). starts_of k ls) same ∙ ap (drop 1) e)
 
-pub starts_of-lines : (a : ℕ) (text : List ℕ) → starts_of a (lines text) ≡ a ∷ starts_behind a text []
+pub starts_of-lines : (a : ℕ) (text : List ℕ) → starts_of a (lines text) ≡ a ∷ starts_after a text []
 starts_of-lines a [] = refl
 starts_of-lines a (b ∷ bs) =
     let none : bs ++ [] ≡ bs = append-nil bs in
-    rw none (start_step (ends_line b bs) (b == CARRIAGE_RETURN) a b (lines bs) (starts_behind (a + 1) bs []) (starts_of-lines (a + 1) bs))
+    rw none (start_step (ends_line b bs) (b == CARRIAGE_RETURN) a b (lines bs) (starts_after (a + 1) bs []) (starts_of-lines (a + 1) bs))
 
 pub line_starts-lines : (text : List ℕ) → starts_of 0 (lines text) ≡ line_starts text
 line_starts-lines text = starts_of-lines 0 text
@@ -112,8 +112,8 @@ found weight (l ∷ m ∷ ls) bytes a number at h =
     let past : nat_le (a + line_size one l) (a + at) ≡ false = lt-leb (a + line_size one l) (a + at) (omega arith) in
     rw before (found_here weight (starts_of a (l ∷ m ∷ ls)) bytes l.content a number at (rw (up, past)) refl (first_content_first bytes h.0 l h.1)))
     (λ (ge : line_size one l ≤ at).
-    let behind : nat_lt at (line_size one l) ≡ false = le-ltb at (line_size one l) ge in
-    rw behind (found_later weight (starts_of (a + line_size one l) (m ∷ ls)) bytes h.0 a number at (line_size one l) _ ge (rest_of bytes h.0 l h.1)
+    let after : nat_lt at (line_size one l) ≡ false = le-ltb at (line_size one l) ge in
+    rw after (found_later weight (starts_of (a + line_size one l) (m ∷ ls)) bytes h.0 a number at (line_size one l) _ ge (rest_of bytes h.0 l h.1)
     (found weight (m ∷ ls) h.0 (a + line_size one l) (number + 1) (at - line_size one l) h.2)))
     (cases_lt at (line_size one l))
 
@@ -155,7 +155,7 @@ reached weight (l ∷ m ∷ ls) bytes a (suc number) unit h few =
     reached_later weight (starts_of (a + line_size one l) (m ∷ ls)) bytes h.0 a number unit (line_size one l) _ (size_of_first bytes h.0 l h.1) (rest_of bytes h.0 l h.1)
     (reached weight (m ∷ ls) h.0 (a + line_size one l) number unit h.2 (omega arith))
 
--- a line behind the last is the end
+-- a line after the last is the end
 pub past_last : (weight : ℕ → ℕ) (ls : List Line) (bytes : List ℕ) (a number unit : ℕ) → AreLines bytes ls → length (starts_of a ls) ≤ number → offset_in one weight number unit ls ≡ length bytes
 past_last weight [] bytes a number unit h many = absurd h
 past_last weight (l ∷ []) bytes a zero unit h many = absurd (omega arith)
@@ -219,10 +219,10 @@ length_step : (t : Bool) (a n : ℕ) (x : List ℕ) → length x ≤ n → lengt
 length_step true a n x h = omega arith
 length_step false a n x h = omega arith
 
-length-starts_behind : (at : ℕ) (xs rest : List ℕ) → length (starts_behind at xs rest) ≤ length xs
-length-starts_behind at [] rest = omega arith
-length-starts_behind at (x ∷ xs) rest = length_step (ends_line x (xs ++ rest)) (at + 1) (length xs) _ (length-starts_behind (at + 1) xs rest)
+length-starts_after : (at : ℕ) (xs rest : List ℕ) → length (starts_after at xs rest) ≤ length xs
+length-starts_after at [] rest = omega arith
+length-starts_after at (x ∷ xs) rest = length_step (ends_line x (xs ++ rest)) (at + 1) (length xs) _ (length-starts_after (at + 1) xs rest)
 
 -- no text has more lines than one for each byte, and one
 pub length-line_starts : (text : List ℕ) → length (line_starts text) ≤ length text + 1
-length-line_starts text = omega (arith, length-starts_behind 0 text [])
+length-line_starts text = omega (arith, length-starts_after 0 text [])

@@ -11,11 +11,11 @@ use Rattle.std.specs.Char.{len_utf8}
 use lib.Utf8.{encodes}
 use Rattle.srb_text.specs.Lines.{Line, lines, IsFirstLine, AreLines}
 use Rattle.srb_text.specs.Positions.{len_utf16, fitting, line_size, byte_len, position_in, offset_in, position_of, offset_of, IsStart, one}
-use Rattle.srb_text.specs.Edits.{before, behind, replaced, edited}
+use Rattle.srb_text.specs.Edits.{before, after, replaced, edited}
 use Rattle.std.specs.String.Boundary.{IsSplitPoint}
 use Rattle.srb_text.specs.Units.{units_at}
 use Rattle.srb_text.specs.declared.Pos.{Pos}
-use Rattle.srb_text.proofs.FittingLemmas.{fitting_split, fitting_whole, sum_by-fitting-front, start_behind, start_before, start_after}
+use Rattle.srb_text.proofs.FittingLemmas.{fitting_split, fitting_whole, sum_by-fitting-front, start_past, start_before, start_after}
 use Rattle.srb_text.proofs.LineLemmas.{AreLines-lines}
 use Rattle.srb_text.proofs.PlaceLemmas.{sum_by-one, fitting-one}
 use Rattle.srb_text.proofs.SpellingLemmas.{encoded, lines-encodes, length-encodes, fitting-encodes, sum_by-units-encodes}
@@ -39,7 +39,7 @@ drop-encodes text at h =
     let parts : encodes text ≡ encodes front ++ encodes rest = ap encodes (sym (fitting_split len_utf8 at text)) ∙ encodes-append front rest in
     ap (drop at) parts ∙ drop_at (encodes front) (encodes rest) at (length-encodes front ∙ h)
 
--- the units before an offset in a line, which is a start or behind the line's characters
+-- the units before an offset in a line, which is a start or after the line's characters
 units_before : (content : List ℕ) (at : ℕ) → IsStart content at ⊎ (byte_len content ≤ at) → sum_by units_at (fitting one at (encodes content)) ≡ sum_by len_utf16 (fitting len_utf8 at content)
 units_before content at h =
     ap (sum_by units_at) (fitting-one at (encodes content)
@@ -62,15 +62,15 @@ in_first content rest at h =
     ⊎_elim (λ (lt : at < byte_len content). inl (start_before len_utf8 at content rest lt h)) (λ (ge : byte_len content ≤ at). inr ge) (cases_lt at (byte_len content))
 
 place_step : (at m n : ℕ) (p q r t : Pos) → m ≡ n → (at < n → p ≡ q) → (n ≤ at → r ≡ t) → (if nat_lt at m then p else r) ≡ (if nat_lt at n then q else t)
-place_step at m n p q r t e before behind =
+place_step at m n p q r t e before after =
     ⊎_elim (λ (lt : at < n). let yes_m : nat_lt at m ≡ true = lt-ltb at m (omega arith) in let yes_n : nat_lt at n ≡ true = lt-ltb at n lt in rw (yes_m, yes_n) (before lt))
-    (λ (ge : n ≤ at). let no_m : nat_lt at m ≡ false = le-ltb at m (omega arith) in let no_n : nat_lt at n ≡ false = le-ltb at n ge in rw (no_m, no_n) (behind ge))
+    (λ (ge : n ≤ at). let no_m : nat_lt at m ≡ false = le-ltb at m (omega arith) in let no_n : nat_lt at n ≡ false = le-ltb at n ge in rw (no_m, no_n) (after ge))
     (cases_lt at n)
 
 pub start_in_rest : (text rest : List ℕ) (l : Line) (at : ℕ) → IsFirstLine text l rest → line_size len_utf8 l ≤ at → IsStart text at → IsStart rest (at - line_size len_utf8 l)
 start_in_rest text rest l at h ge s =
     let size : byte_len (l.content ++ l.ending) ≡ line_size len_utf8 l = sum_by-append len_utf8 l.content l.ending in
-    let there : IsStart rest (at - byte_len (l.content ++ l.ending)) = start_behind len_utf8 at (l.content ++ l.ending) rest (omega arith) (subst (λ (v : List ℕ). IsStart v at) h.whole s) in
+    let there : IsStart rest (at - byte_len (l.content ++ l.ending)) = start_past len_utf8 at (l.content ++ l.ending) rest (omega arith) (subst (λ (v : List ℕ). IsStart v at) h.whole s) in
     subst (λ (k : ℕ). IsStart rest (at - k)) size there
 
 pub start_in_line : (text rest : List ℕ) (l : Line) (at : ℕ) → IsFirstLine text l rest → IsStart text at → IsStart l.content at ⊎ (byte_len l.content ≤ at)
@@ -141,25 +141,25 @@ all_scalars-append : (xs ys : List ℕ) → all_scalars xs ≡ true → all_scal
 all_scalars-append [] ys h k = k
 all_scalars-append (x ∷ xs) ys h k = let parts = and_parts _ _ h in and_from _ _ parts.0 (all_scalars-append xs ys parts.1 k)
 
-scalars_around : (text : List ℕ) (at : ℕ) → all_scalars text ≡ true → (all_scalars (before at text) ≡ true) × (all_scalars (behind at text) ≡ true)
-scalars_around text at h = all_scalars-parts (before at text) (behind at text) (ap all_scalars (fitting_split len_utf8 at text) ∙ h)
+scalars_around : (text : List ℕ) (at : ℕ) → all_scalars text ≡ true → (all_scalars (before at text) ≡ true) × (all_scalars (after at text) ≡ true)
+scalars_around text at h = all_scalars-parts (before at text) (after at text) (ap all_scalars (fitting_split len_utf8 at text) ∙ h)
 
 pub replaced-encodes : (text new : List ℕ) (start end : ℕ) → IsStart text start → IsStart text end → take start (encodes text) ++ encodes new ++ drop end (encodes text) ≡ encodes (replaced text start end new)
 replaced-encodes text new start end s e =
     ap₂ (λ (v w : List ℕ). v ++ encodes new ++ w) (take-encodes text start s) (drop-encodes text end e)
-    ∙ ap (λ (v : List ℕ). v ++ encodes (behind end text)) (sym (encodes-append (before start text) new))
-    ∙ sym (encodes-append (before start text ++ new) (behind end text))
+    ∙ ap (λ (v : List ℕ). v ++ encodes (after end text)) (sym (encodes-append (before start text) new))
+    ∙ sym (encodes-append (before start text ++ new) (after end text))
 
 pub replaced-scalars : (text new : List ℕ) (start end : ℕ) → all_scalars text ≡ true → all_scalars new ≡ true → all_scalars (replaced text start end new) ≡ true
 replaced-scalars text new start end t n =
-    all_scalars-append (before start text ++ new) (behind end text) (all_scalars-append (before start text) new (scalars_around text start t).0 n) (scalars_around text end t).1
+    all_scalars-append (before start text ++ new) (after end text) (all_scalars-append (before start text) new (scalars_around text start t).0 n) (scalars_around text end t).1
 
 -- a start is where the bytes may be cut
 pub cut_at_start : (text bytes : List ℕ) (at : ℕ) → all_scalars text ≡ true → encodes text ≡ bytes → IsStart text at → IsSplitPoint bytes at
 cut_at_start text bytes at t e s =
     let long : at ≤ length bytes = omega (arith, ap length e, length-encodes text, start_within text at s) in
-    let rest : encodes (behind at text) ≡ drop at bytes = sym (drop-encodes text at s) ∙ ap (drop at) e in
-    let place = IsCharBoundary-from_drop bytes at long (behind at text, ((scalars_around text at t).1, rest)) in
+    let rest : encodes (after at text) ≡ drop at bytes = sym (drop-encodes text at s) ∙ ap (drop at) e in
+    let place = IsCharBoundary-from_drop bytes at long (after at text, ((scalars_around text at t).1, rest)) in
     (place.0, λ _. place.1)
 
 -- what a text is seen as spells it

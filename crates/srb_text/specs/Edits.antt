@@ -10,12 +10,12 @@ use Rattle.srb_text.specs.declared.EditFault.TheVariants.{Backwards, NoMemory}
 abbrev pub before : ℕ → List ℕ → List ℕ
 before at text = fitting len_utf8 at text
 
-abbrev pub behind : ℕ → List ℕ → List ℕ
-behind at text = drop (length (before at text)) text
+abbrev pub after : ℕ → List ℕ → List ℕ
+after at text = drop (length (before at text)) text
 
 -- the text in which `new` stands in the place of the part between two offsets in bytes
 abbrev pub replaced : List ℕ → ℕ → ℕ → List ℕ → List ℕ
-replaced text start end new = before start text ++ new ++ behind end text
+replaced text start end new = before start text ++ new ++ after end text
 
 -- the text in which `new` stands in the place of the part between two positions
 abbrev pub edited : (ℕ → ℕ) → List ℕ → Pos → Pos → List ℕ → List ℕ

@@ -2,16 +2,16 @@
 use Rattle.std.specs.Prelude.{ℕ, ◌+◌, List, [], ◌∷◌, ◌++◌, if◌then◌else◌}
 use Rattle.srb_text.specs.Lines.{ends_line, is_line_end}
 
--- where lines start behind the bytes, which begin at `at` and before `rest`
-abbrev pub starts_behind : ℕ → List ℕ → List ℕ → List ℕ
-starts_behind at [] rest = []
-starts_behind at (b ∷ bs) rest =
-    if ends_line b (bs ++ rest) then (at + 1) ∷ starts_behind (at + 1) bs rest
-    else starts_behind (at + 1) bs rest
+-- where lines start after the bytes, which begin at `at` and before `rest`
+abbrev pub starts_after : ℕ → List ℕ → List ℕ → List ℕ
+starts_after at [] rest = []
+starts_after at (b ∷ bs) rest =
+    if ends_line b (bs ++ rest) then (at + 1) ∷ starts_after (at + 1) bs rest
+    else starts_after (at + 1) bs rest
 
 -- where each line of the text starts
 abbrev pub line_starts : List ℕ → List ℕ
-line_starts bytes = 0 ∷ starts_behind 0 bytes []
+line_starts bytes = 0 ∷ starts_after 0 bytes []
 
 -- the bytes of the first line, without its end
 abbrev pub first_content : List ℕ → List ℕ

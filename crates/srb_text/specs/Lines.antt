@@ -17,7 +17,7 @@ is_line_end c = c == LINE_FEED || c == CARRIAGE_RETURN
 abbrev pub begins_with_line_feed : List ℕ → Bool
 begins_with_line_feed text = slice_index text 0 == LINE_FEED
 
--- whether a line ends right behind the character, before `rest`: never between the two of one end
+-- whether a line ends right after the character, before `rest`: never between the two of one end
 abbrev pub ends_line : ℕ → List ℕ → Bool
 ends_line c rest = c == LINE_FEED || (c == CARRIAGE_RETURN && not (begins_with_line_feed rest))
 
@@ -57,7 +57,7 @@ pub record IsLastLine (text : List ℕ) (line : Line) : Type 0 where
   pub plain : HasNoLineEnd line.content
   pub endless : line.ending ≡ []
 
--- the text begins with the line, behind which `rest` follows
+-- the text begins with the line, after which `rest` follows
 pub record IsFirstLine (text : List ℕ) (line : Line) (rest : List ℕ) : Type 0 where
   pub whole : text ≡ line.content ++ line.ending ++ rest
   pub plain : HasNoLineEnd line.content

@@ -37,7 +37,7 @@ position_in size weight number at (l ∷ m ∷ ls) =
     else position_in size weight (number + 1) (at - line_size size l) (m ∷ ls)
 
 -- the offset from the start of the first of the lines to the place `unit` in the line `number`, where that
--- first line has the number 0. Behind a line's last character it is where the line's end begins, behind
+-- first line has the number 0. After a line's last character it is where the line's end begins, after
 -- the last line the text's end, and inside a character that character's start.
 abbrev pub offset_in : (ℕ → ℕ) → (ℕ → ℕ) → ℕ → ℕ → List Line → ℕ
 offset_in size weight number unit [] = 0

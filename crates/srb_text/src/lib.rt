@@ -42,7 +42,7 @@ pub enum TextFault {
 /// Why a part of a text was not replaced.
 #[derive(Clone, Copy, Debug, PartialEq, Eq)]
 pub enum EditFault {
-    /// The part would start behind its end: these are the offsets of both, in bytes.
+    /// The part would start after its end: these are the offsets of both, in bytes.
     Backwards { start: u32, end: u32 },
     NoMemory,
 }
@@ -95,8 +95,8 @@ impl Text {
         self.text.as_str()
     }
 
-    /// The offset in bytes that a position names. Behind a line's last character it is where the line's end
-    /// begins, inside a character where that starts, and for a line behind the last the text's end.
+    /// The offset in bytes that a position names. After a line's last character it is where the line's end
+    /// begins, inside a character where that starts, and for a line after the last the text's end.
     pub fn offset(&self, p: Pos) -> u32
         ensures offset { result ≡ offset_of len_utf16 self.now p }
         ensures start { IsStart self.now result }

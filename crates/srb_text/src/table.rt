@@ -3,7 +3,7 @@ ghost use Rattle.std.specs.Prelude.{◌≡◌, ◌+◌, ◌-◌, ◌^◌, ◌<�
 ghost use Rattle.std.specs.List.{prefix_len};
 ghost use Rattle.std.specs.List.Sorted.{IsStrictlyIncreasing};
 ghost use Rattle.srb_text.specs.Lines.{begins_with_line_feed};
-ghost use Rattle.srb_text.specs.LineStarts.{starts_behind, line_starts};
+ghost use Rattle.srb_text.specs.LineStarts.{starts_after, line_starts};
 
 use std::alloc::{AllocError, Global};
 
@@ -20,7 +20,7 @@ pub fn starts_up_to(starts: &[u32], at: u32) -> usize
     starts.partition_point(|s| *s <= at)
 }
 
-// Whether a line feed follows the first `count` bytes; behind the bytes is `rest`.
+// Whether a line feed follows the first `count` bytes; after the bytes is `rest`.
 fn line_feed_follows(bytes: &[u8], count: usize, rest: &[u8]) -> bool
     requires { count ≤ length bytes.now }
     ensures { result ≡ begins_with_line_feed (drop count bytes.now ++ rest.now) }
@@ -34,7 +34,7 @@ fn line_feed_follows(bytes: &[u8], count: usize, rest: &[u8]) -> bool
     rest[0] == LINE_FEED
 }
 
-// Adds where lines start behind the bytes, which begin at `at` and before `rest`.
+// Adds where lines start after the bytes, which begin at `at` and before `rest`.
 pub fn push_starts(
     starts: &mut Vec<u32>,
     at: u32,
@@ -42,7 +42,7 @@ pub fn push_starts(
     rest: &[u8],
 ) -> Result<(), AllocError>
     requires { at + length bytes.now < 2 ^ 32 }
-    ensures { OnOk result (starts.new.items ≡ starts.old.items ++ starts_behind at bytes.now rest.now) }
+    ensures { OnOk result (starts.new.items ≡ starts.old.items ++ starts_after at bytes.now rest.now) }
 {
     for i in 0..bytes.len() {
         let byte = bytes[i];
@@ -68,7 +68,7 @@ pub fn built(alloc: Global, text: &[u8]) -> Result<Vec<u32>, AllocError>
 
 // Adds starts that were counted from `from` on and are now counted from `to` on.
 fn push_moved(starts: &mut Vec<u32>, moved: &[u32], from: u32, to: u32) -> Result<(), AllocError>
-    requires behind { All (λ s. from ≤ s) moved.now }
+    requires after { All (λ s. from ≤ s) moved.now }
     requires fits { All (λ s. (s - from) + to < 2 ^ 32) moved.now }
     ensures { OnOk result (starts.new.items ≡ starts.old.items ++ map (λ s. (s - from) + to) moved.now) }
 {

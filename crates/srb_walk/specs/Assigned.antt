@@ -1,5 +1,5 @@
 -- The variables that a tree assigns. "A variable: .. an assignment to it, begins earlier in the same body and, if that stands in a block,
--- the block encloses the identifier." What a block assigns is asked for apart from what is visible behind it.
+-- the block encloses the identifier." What a block assigns is asked for apart from what is visible after it.
 use Rattle.std.specs.Prelude.{ℕ, Bool, true, false, List, [], ◌∷◌, bytes_eq, if◌then◌else◌, Option, Some}
 use Rattle.rb_tree.specs.declared.syntax.Block.{Block}
 use Rattle.rb_tree.specs.declared.syntax.PlacedName.{PlacedName}
@@ -14,7 +14,7 @@ use Rattle.srb_judgement.specs.Variables.{names_at, in_no_block, target_names}
 use Rattle.srb_walk.specs.Known.{known_node, known_block}
 
 module _ {T X : Type 0} where
-  -- what is visible behind an expression, or, if `blocks`, also what blocks in it assign
+  -- what is visible after an expression, or, if `blocks`, also what blocks in it assign
   abbrev pub names_in : Bool → Part T X → List (List ℕ)
   names_in true p = p.it.assigns
   names_in false p = p.it.declares

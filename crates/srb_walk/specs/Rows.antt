@@ -1,5 +1,5 @@
 -- Rows of suffixes, from left to right. The judgement gives each prefix of a row as an operand that judges the one before it; here the
--- type so far, the state behind it and the variables that the prefix assigns are passed on from one suffix to the next.
+-- type so far, the state after it and the variables that the prefix assigns are passed on from one suffix to the next.
 use Rattle.std.specs.Prelude.{◌≡◌, ℕ, Bool, true, false, List, [], ◌∷◌, ◌++◌, codes, Option, None}
 use Rattle.srb_terms.specs.declared.span.Span.{Span}
 use Rattle.rb_tree.specs.declared.syntax.Argument.{Argument}
@@ -50,7 +50,7 @@ module _ {T X : Type 0} (L : Language T X) where
   abbrev pub prefix_judged : Chain T X → Context T → State T → Prefix T
   prefix_judged row c s = record { declares = row.it.declares; it = row.it.judge c s }
 
--- A row that is reached is judged from left to right, behind a prefix that is no path of constants: so no form of `T` and no longer path
+-- A row that is reached is judged from left to right, after a prefix that is no path of constants: so no form of `T` and no longer path
 -- begins with it.
 abbrev pub RowsGoFromLeftToRight : Type 0 → Type 0 → Type 0
 RowsGoFromLeftToRight T X =

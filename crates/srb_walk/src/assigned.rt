@@ -34,7 +34,7 @@ fn target<L: Language>(language: &L, tree: &Tree, found: &mut Items<Name>) -> Re
     name_alone(tree, found)
 }
 
-/// Adds the variable behind the `=>` of a `rescue` clause.
+/// Adds the variable after the `=>` of a `rescue` clause.
 fn caught(variable: &Option<PlacedName>, found: &mut Items<Name>) -> Result<(), NoMemory>
     ensures { OnOk result (found.new ≡ found.old ++ caught_names variable.now) }
 {
@@ -44,7 +44,7 @@ fn caught(variable: &Option<PlacedName>, found: &mut Items<Name>) -> Result<(), 
     }
 }
 
-/// Adds the variables behind the `=>` of `rescue` clauses.
+/// Adds the variables after the `=>` of `rescue` clauses.
 fn all_caught<L: Language>(
     language: &L,
     row: &[Rescue<Tree>],
@@ -482,7 +482,7 @@ fn guarded<L: Language>(
     if_any(alloc, language, blocks, &guarded.ensure, found)
 }
 
-/// Adds the variables that a tree assigns, of which each is visible behind it; if `blocks`, also those that blocks in it assign.
+/// Adds the variables that a tree assigns, of which each is visible after it; if `blocks`, also those that blocks in it assign.
 #[cycle(names)]
 #[tactic(auto, using(crate::proofs::Naming::names_are))]
 pub fn assigned<L: Language>(

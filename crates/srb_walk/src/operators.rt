@@ -17,7 +17,7 @@ use rb_views::place::prefix_operator;
 use srb_judgement::calls::call_alone;
 use srb_judgement::contexts::Context;
 use srb_judgement::language::Language;
-use srb_judgement::operators::{and_behind, method_name, or_behind};
+use srb_judgement::operators::{and_whole, method_name, or_whole};
 use srb_judgement::sent::{Arguments, Given};
 use srb_judgement::states::State;
 use srb_judgement::tested::Tested;
@@ -44,7 +44,7 @@ pub fn and_right<W: Walk, L: Language>(
     } = left;
     state.environment = truth;
     let other = walk.judge(alloc, language, context, state, right)?;
-    and_behind(alloc, language, &ty, falsehood, other, state)
+    and_whole(alloc, language, &ty, falsehood, other, state)
 }
 
 /// Judges `b` of `a || b`, with a as a condition.
@@ -66,7 +66,7 @@ pub fn or_right<W: Walk, L: Language>(
     } = left;
     state.environment = falsehood;
     let other = walk.judge(alloc, language, context, state, right)?;
-    or_behind(alloc, language, &ty, truth, other, state)
+    or_whole(alloc, language, &ty, truth, other, state)
 }
 
 /// Judges the argument of an operator on a receiver of this type, and calls its method.

@@ -48,7 +48,7 @@ fn longer_path(alloc: Global, path: &Names, name: &Name) -> Result<Names, NoMemo
     in_front(alloc, names, last)
 }
 
-/// The spelling of an operand with `::` and a name behind it.
+/// The spelling of an operand with `::` and a name after it.
 fn longer_spelling(alloc: Global, spelling: &Spelling, name: &Name) -> Result<Spelling, NoMemory>
     ensures { IfOk result (λ s. seen_spelling s ≡ spec.with_constant (seen_spelling spelling.now) name.now) }
 {

@@ -13,7 +13,7 @@ use Rattle.srb_judgement.specs.States.{Context, State, Judged, Run, judged}
 use Rattle.srb_judgement.specs.Words.{variable, instance_variable}
 
 module _ {T X : Type 0} (L : Language T X) where
-  -- ---- assignments with an operator, behind the reading of the target
+  -- ---- assignments with an operator, after the reading of the target
 
   abbrev pub closed_read : T → State T → Judged T
   closed_read read s = closed L (judged read s)

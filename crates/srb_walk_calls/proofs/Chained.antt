@@ -35,7 +35,7 @@ use Rattle.srb_walk_calls.specs.Fronts.{constants_before, path_length, goes_on, 
 use Rattle.srb_walk.specs.Written.{row_spelling, spelling_of, with_constant}
 
 module _ {T X : Type 0} (L : Language T X) where
-  -- ---- behind a front
+  -- ---- after a front
 
   -- an index is no form of `T`
   no-index : (t : Bool) (arguments : List (Argument (Operand T X))) → on_t t (codes "[]") arguments ≡ NoAssertion

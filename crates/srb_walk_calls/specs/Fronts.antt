@@ -90,7 +90,7 @@ counted (argument.Positional e ∷ []) = count.One
 counted (argument.Positional e ∷ argument.Positional x ∷ []) = count.Two
 counted _ = count.Other
 
--- the form that a suffix is behind an operand with this spelling
+-- the form that a suffix is after an operand with this spelling
 abbrev pub suffix_form : {P : Type 0} → Spelling → Suffix P → Form
 suffix_form receiver (suffix.Call dot.Plain name name_span arguments None span) = form_by receiver name (counted (arguments_of arguments))
 suffix_form receiver _ = form.Call
@@ -116,7 +116,7 @@ abbrev pub goes_on : {P : Type 0} → Spelling → List (Suffix P) → Bool
 goes_on (ConstantPath path) (suffix.Constant name name_span span ∷ rest) = true
 goes_on _ _ = false
 
--- the form of `T` that the first suffix is behind what is spelled so
+-- the form of `T` that the first suffix is after what is spelled so
 abbrev pub next_form : {P : Type 0} → Spelling → List (Suffix P) → Form
 next_form spelled [] = form.Call
 next_form spelled (s ∷ rest) = suffix_form spelled s
@@ -127,12 +127,12 @@ span_to operand None = operand
 span_to operand (Some s) = record { start = operand.start; end = (suffix_span s).end }
 
 module _ {T X : Type 0} (L : Language T X) where
-  -- an operand alone, or the path that it is with constants behind it
+  -- an operand alone, or the path that it is with constants after it
   abbrev pub front_judged : Bool → Operand T X → Spelling → Run T
   front_judged false o path c s = o.judge c s
   front_judged true o path c s = closed L (judged (spelled_type L c path) s)
 
-  -- a form of `T`, and the suffixes behind it
+  -- a form of `T`, and the suffixes after it
   abbrev pub asserted : Form → Span → List (List ℕ) → List (Suffix (Part T X)) → Context T → State T → Prefix T
   asserted f whole declares (suffix.Call how name name_span arguments b span ∷ rest) c s =
       all_suffixed L c rest (record {

@@ -176,7 +176,7 @@ pub fn block<W: Walk, L: Language>(
     )
 }
 
-/// The type of a call with these arguments, with the block that it is given, if it is given one. The context is that behind the arguments.
+/// The type of a call with these arguments, with the block that it is given, if it is given one. The context is that after the arguments.
 pub fn call_with<W: Walk, L: Language>(
     alloc: Global,
     walk: &W,

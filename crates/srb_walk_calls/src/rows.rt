@@ -82,7 +82,7 @@ pub fn called<W: Walk, L: Language>(
     })
 }
 
-/// A constant as one more suffix, behind what is no path.
+/// A constant as one more suffix, after what is no path.
 pub fn with_constant<L: Language>(language: &L, state: &mut State, so_far: Row) -> Row
     ensures { fronts.seen_row result (seen_state state.new) ≡ record { declares = so_far.declares; it = closed (L.the language.now) (judged (L.the language.now).untyped (seen_state state.old)) } }
 {
@@ -263,7 +263,7 @@ pub fn count_of(row: &[Argument<Tree>]) -> Count
     }
 }
 
-/// The form of `T` that a suffix is behind an operand with this spelling.
+/// The form of `T` that a suffix is after an operand with this spelling.
 pub fn form_of(receiver: &Spelling, suffix: &Suffix<Tree>) -> Form
     ensures { result ≡ fronts.suffix_form (seen_spelling receiver.now) suffix.now }
 {
@@ -279,7 +279,7 @@ pub fn form_of(receiver: &Spelling, suffix: &Suffix<Tree>) -> Form
     }
 }
 
-/// The path of a constant, behind `::` if `top`.
+/// The path of a constant, after `::` if `top`.
 pub fn constant_path(alloc: Global, top: bool, name: &Name) -> Result<Names, NoMemory>
     ensures { IfOk result (λ path. path ≡ fronts.constant_path top name.now) }
 {
@@ -423,7 +423,7 @@ pub fn goes_on(spelled: &Spelling, row: &[Suffix<Tree>]) -> bool
     }
 }
 
-/// The form of `T` that the first suffix is behind what is spelled so.
+/// The form of `T` that the first suffix is after what is spelled so.
 pub fn next_form(spelled: &Spelling, row: &[Suffix<Tree>]) -> Form
     ensures { result ≡ fronts.next_form (seen_spelling spelled.now) row.now }
 {
@@ -583,7 +583,7 @@ pub fn rows<W: Walk, L: Language>(
     )
 }
 
-/// The place from an operand to the suffix behind so many.
+/// The place from an operand to the suffix after so many.
 pub fn up_to_next(operand: Span, row: &[Suffix<Tree>], before: usize) -> Span
     ensures { result ≡ fronts.span_to operand (slice_get row.now before) }
 {
@@ -596,7 +596,7 @@ pub fn up_to_next(operand: Span, row: &[Suffix<Tree>], before: usize) -> Span
     }
 }
 
-/// The type of a constant, behind `::` if `top`.
+/// The type of a constant, after `::` if `top`.
 pub fn named_constant<L: Language>(
     alloc: Global,
     language: &L,

@@ -1,4 +1,4 @@
--- What is done after a condition, an arm or a `when` doesn't read the environment of the state behind it.
+-- What is done after a condition, an arm or a `when` doesn't read the environment of the state after it.
 use Rattle.std.proofs.Common.{◌≡◌, ◌++◌, ℕ, suc, ◌+◌, ◌<◌, List, [], ◌∷◌, length, drop, get_or, Option, Some, None, refl, ap, ap₂, sym, ◌∙◌, arith}
 use Rattle.std.proofs.Math.Seq.{drop-cons}
 use Rattle.rb_tree.specs.declared.syntax.Arm.{Arm}
@@ -61,14 +61,14 @@ module _ {X : Type 0} (L : Language Ty X) where
       (first ∙ condition_settled body visible c t u tested))
 
   -- what is done where a condition holds, by what its branch gives
-  pub behind_is : (body : Part Ty X) (c : Context Ty) (a : Branching Ty) (t : Tested Ty) (ends : Ends Ty) (s : State Ty) (before names visible : List (List ℕ)) →
+  pub after_is : (body : Part Ty X) (c : Context Ty) (a : Branching Ty) (t : Tested Ty) (ends : Ends Ty) (s : State Ty) (before names visible : List (List ℕ)) →
       names ≡ before →
       ends ≡ with_end L (branch_ends L a) (body.it.judge (seeing names c) (moved t.truth t.state)) →
       s ≡ moved Silent (body.it.judge (seeing names c) (moved t.truth t.state)).state →
       visible ≡ before ++ body.it.declares →
       settled_branching (record { ty = ends.ty; ends = ends.environment; rest = t.falsehood; visible = visible; state = s })
       ≡ settled_branching (after_condition L body before c a t)
-  behind_is body c a t ends s before names visible n e k v =
+  after_is body c a t ends s before names visible n e k v =
       (λ i. settled_branching (record { ty = (e i).ty; ends = (e i).environment; rest = t.falsehood; visible = v i; state = k i }))
       ∙ (λ i. settled_branching (with_branch L a t.falsehood (before ++ body.it.declares) (body.it.judge (seeing (n i) c) (moved t.truth t.state))))
 

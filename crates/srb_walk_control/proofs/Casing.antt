@@ -1,4 +1,4 @@
--- What is done after a pattern, a `when` or a clause doesn't read the environment of the state behind it.
+-- What is done after a pattern, a `when` or a clause doesn't read the environment of the state after it.
 use Rattle.std.proofs.Common.{◌≡◌, ℕ, ◌+◌, ◌<◌, List, [], ◌∷◌, ◌++◌, length, drop, get_or, Option, ap, ap₂, sym, ◌∙◌}
 use Rattle.rb_tree.specs.declared.syntax.Rescue.{Rescue}
 use Rattle.rb_tree.specs.declared.syntax.Tree.{Tree}

@@ -1,5 +1,5 @@
 -- Guards: what a step gives is what the definitions say. What is done after a clause or an `else` doesn't read the environment of the state
--- behind it.
+-- after it.
 use Rattle.std.proofs.Common.{◌≡◌, ℕ, List, [], ◌∷◌, ◌++◌, map, Option, Some, None, refl, ap, sym, ◌∙◌, append_assoc}
 use Rattle.rb_tree.specs.declared.syntax.Guarded.{Guarded}
 use Rattle.rb_tree.specs.declared.syntax.Rescue.{Rescue}
@@ -39,12 +39,12 @@ module _ {X : Type 0} (L : Language Ty X) where
       h ∙ ap (λ (x : Several Ty). caught_after L r c so_far x.state)
       (m ∙ ap (λ around. judge_all (map part_operand r.patterns) around (moved so_far.patterns so_far.state)) i)
 
-  -- what is caught behind the patterns
-  pub behind_is : (r : Rescue (Part Ty X)) (c : Context Ty) (so_far : Rescuing Ty) (s t : State Ty) (found : List (List ℕ)) (e : Environment Ty) →
+  -- what is caught after the patterns
+  pub after_is : (r : Rescue (Part Ty X)) (c : Context Ty) (so_far : Rescuing Ty) (s t : State Ty) (found : List (List ℕ)) (e : Environment Ty) →
       found ≡ (so_far.visible ++ all_declared (map part_operand r.patterns)) ++ caught_names r.variable →
       e ≡ s.environment → t ≡ caught L r.variable (caught_type L c r.patterns) c s →
       record so_far { patterns = e; visible = found; state = t } ≡ caught_after L r c so_far s
-  behind_is r c so_far s t found e n p h = λ i. record so_far { patterns = p i; visible = n i; state = h i }
+  after_is r c so_far s t found e n p h = λ i. record so_far { patterns = p i; visible = n i; state = h i }
 
   -- the body of a clause, and of an `else`, by its end
   pub body_is : (so_far : Rescuing Ty) (patterns : Environment Ty) (visible found : List (List ℕ)) (ends : Ends Ty) (j k : Judged Ty) (s : State Ty) →
@@ -55,11 +55,11 @@ module _ {X : Type 0} (L : Language Ty X) where
       (λ i. settled_rescuing (record { ty = (e i).ty; ends = (e i).environment; patterns = patterns; visible = n i; state = b i }))
       ∙ ap (λ x. settled_rescuing (with_clause_end L so_far patterns visible x)) h
 
-  pub else_is : (so_far : Rescuing Ty) (visible found : List (List ℕ)) (ends : Ends Ty) (behind : Environment Ty) (j k : Judged Ty) (s : State Ty) →
-      found ≡ visible → j ≡ k → behind ≡ j.state.environment → ends ≡ with_first_end L (clause_ends L so_far) behind j.ty → s ≡ moved Silent j.state →
+  pub else_is : (so_far : Rescuing Ty) (visible found : List (List ℕ)) (ends : Ends Ty) (after : Environment Ty) (j k : Judged Ty) (s : State Ty) →
+      found ≡ visible → j ≡ k → after ≡ j.state.environment → ends ≡ with_first_end L (clause_ends L so_far) after j.ty → s ≡ moved Silent j.state →
       settled_rescuing (record { ty = ends.ty; ends = ends.environment; patterns = so_far.patterns; visible = found; state = s })
       ≡ settled_rescuing (with_else_end L so_far visible k)
-  else_is so_far visible found ends behind j k s n h q e b =
+  else_is so_far visible found ends after j k s n h q e b =
       (λ i. settled_rescuing (record { ty = (e i).ty; ends = (e i).environment; patterns = so_far.patterns; visible = n i; state = b i }))
       ∙ ap (λ at. settled_rescuing (with_first L (record so_far { visible = visible; state = j.state }) at j.ty)) q
       ∙ ap (λ x. settled_rescuing (with_else_end L so_far visible x)) h
@@ -125,7 +125,7 @@ module _ {X : Type 0} (L : Language Ty X) where
 
   -- ---- the whole
 
-  -- what stands behind the first body
+  -- what stands after the first body
   pub rest_is : (clauses : List (Rescue (Part Ty X))) (otherwise ensure : Option (Part Ty X)) (c : Context Ty) (v : Environment Ty) (ty : Ty) (e : Environment Ty)
       (s t : State Ty) (start a b : Rescuing Ty) →
       settled_rescuing a ≡ settled_rescuing (with_clauses L clauses c start) →
@@ -137,7 +137,7 @@ module _ {X : Type 0} (L : Language Ty X) where
       ∙ ap (λ x. settled_rescuing x) (else_first otherwise c ty e t s a)
       ∙ else_settled otherwise c (judged ty (moved e s)) a (with_clauses L clauses c start) more)
 
-  -- the whole behind its first body, from the state without its environment
+  -- the whole after its first body, from the state without its environment
   silent_is : (g : Guarded (Part Ty X)) (c : Context Ty) (v : Environment Ty) (visible : List (List ℕ)) (first : Judged Ty) →
       with_ensure L g.ensure c v
       (with_else L g.otherwise c first
@@ -154,21 +154,21 @@ module _ {X : Type 0} (L : Language Ty X) where
       (with_clauses L g.rescues c (rescuing L v visible first.state))
       (clauses_settled L g.rescues c (record (rescuing L v visible first.state) { state = moved Silent first.state }) (rescuing L v visible first.state) refl))
 
-  pub guard_is : (g : Guarded (Part Ty X)) (c : Context Ty) (s behind aside : State Ty) (first done left : Judged Ty) (ends : Ends Ty)
+  pub guard_is : (g : Guarded (Part Ty X)) (c : Context Ty) (s after aside : State Ty) (first done left : Judged Ty) (ends : Ends Ty)
       (patterns e : Environment Ty) (visible : List (List ℕ)) →
       aside ≡ record s { errors = [] } →
       first ≡ g.body.it.judge c (record s { breaks = []; nexts = []; assigned = [] }) →
       visible ≡ g.body.it.declares →
       patterns ≡ handled L aside.environment first.state.assigned →
       e ≡ first.state.environment →
-      behind ≡ moved Silent first.state →
+      after ≡ moved Silent first.state →
       ends ≡ no_ends L →
       done ≡ with_ensure L g.ensure c aside.environment
-      (with_else L g.otherwise c (judged first.ty (moved e behind))
-      (with_clauses L g.rescues c (record { ty = ends.ty; ends = ends.environment; patterns = patterns; visible = visible; state = behind }))) →
+      (with_else L g.otherwise c (judged first.ty (moved e after))
+      (with_clauses L g.rescues c (record { ty = ends.ty; ends = ends.environment; patterns = patterns; visible = visible; state = after }))) →
       left ≡ left_guard L aside done →
       left ≡ guard_judged L g c s
-  guard_is g c s behind aside first done left ends patterns e visible a f n p q b t d l =
+  guard_is g c s after aside first done left ends patterns e visible a f n p q b t d l =
       l ∙ ap (λ j. left_guard L aside j)
       (d
       ∙ (λ i. with_ensure L g.ensure c aside.environment (with_else L g.otherwise c (judged first.ty (moved (q i) (b i)))

@@ -104,8 +104,8 @@ fn arm_test<W: Walk, L: Language>(
     walk.test(alloc, language, inner.of(context), state, condition)
 }
 
-/// Judges what is done where a condition holds that is judged, after these branches, with the variables that are visible behind it.
-fn behind_condition<W: Walk, L: Language>(
+/// Judges what is done where a condition holds that is judged, after these branches, with the variables that are visible after it.
+fn after_condition<W: Walk, L: Language>(
     alloc: Global,
     walk: &W,
     language: &L,
@@ -156,7 +156,7 @@ fn arm_body<W: Walk, L: Language>(
 {
     let mut visible = visible;
     assigned(alloc, language, false, &arm.condition, &mut visible)?;
-    behind_condition(
+    after_condition(
         alloc, walk, language, context, state, ends, visible, tested, &arm.body,
     )
 }
@@ -212,7 +212,7 @@ pub fn arms<W: Walk, L: Language>(
     Ok(branching)
 }
 
-/// The type of all branches, behind the last one that is none.
+/// The type of all branches, after the last one that is none.
 pub fn without_otherwise<L: Language>(
     alloc: Global,
     language: &L,
@@ -282,7 +282,7 @@ pub fn otherwise<W: Walk, L: Language>(
     }
 }
 
-/// Judges what is done where a condition holds that is judged, with the variables that are visible behind it.
+/// Judges what is done where a condition holds that is judged, with the variables that are visible after it.
 pub fn first_branch<W: Walk, L: Language>(
     alloc: Global,
     walk: &W,
@@ -296,7 +296,7 @@ pub fn first_branch<W: Walk, L: Language>(
     ensures { IfOk result (λ b. passed.settled_branching (passed.seen_branching b (seen_state state.new)) ≡ passed.settled_branching (branches.after_condition (L.the language.now) (known.part_in (L.the language.now) body.now) visible (seen_context context.now)
         (branches.branching (L.the language.now) (seen_environment tested.falsehood) (seen_state state.old)) (seen_tested tested (seen_state state.old)))) }
 {
-    behind_condition(
+    after_condition(
         alloc,
         walk,
         language,
@@ -309,7 +309,7 @@ pub fn first_branch<W: Walk, L: Language>(
     )
 }
 
-/// Judges a statement with `if` or `unless` behind it.
+/// Judges a statement with `if` or `unless` after it.
 pub fn modified_if<W: Walk, L: Language>(
     alloc: Global,
     walk: &W,

@@ -84,7 +84,7 @@ pub fn pattern<W: Walk, L: Language>(
 }
 
 /// Judges a pattern of `when` where these variables became visible.
-fn pattern_behind<W: Walk, L: Language>(
+fn pattern_after<W: Walk, L: Language>(
     alloc: Global,
     walk: &W,
     language: &L,
@@ -145,7 +145,7 @@ pub fn fit<W: Walk, L: Language>(
         mut visible,
     } = so_far;
     state.environment = rest;
-    let tested = pattern_behind(
+    let tested = pattern_after(
         alloc,
         walk,
         language,

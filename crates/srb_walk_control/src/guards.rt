@@ -68,7 +68,7 @@ fn type_caught<L: Language>(
     caught_type(alloc, language, &context.scope, spelled.as_slice())
 }
 
-/// Adds the variable behind the `=>` of a clause, if it has one.
+/// Adds the variable after the `=>` of a clause, if it has one.
 fn add_variable(variable: &Option<PlacedName>, visible: &mut Items<Name>) -> Result<(), NoMemory>
     ensures { OnOk result (visible.new ≡ visible.old ++ guards_spec.caught_names variable.now) }
 {
@@ -122,8 +122,8 @@ fn catch_all<L: Language>(
     catch_type(alloc, language, context, &clause.variable, &ty, state)
 }
 
-/// Assigns what a clause catches to its variable, behind its patterns. The context is that of the guard.
-fn behind_patterns<L: Language>(
+/// Assigns what a clause catches to its variable, after its patterns. The context is that of the guard.
+fn after_patterns<L: Language>(
     alloc: Global,
     language: &L,
     context: &Context,
@@ -180,7 +180,7 @@ pub fn caught<W: Walk, L: Language>(
         patterns: Environment::Silent,
         visible,
     };
-    behind_patterns(alloc, language, context, state, left, clause)
+    after_patterns(alloc, language, context, state, left, clause)
 }
 
 /// Judges the body of a clause, whose patterns are judged.
@@ -307,8 +307,8 @@ fn else_body<W: Walk, L: Language>(
         body,
     )?;
     assigned(alloc, language, false, body, &mut visible)?;
-    let behind = state.take_environment();
-    let ends = with_first_end(alloc, language, ends, behind, ty)?;
+    let after = state.take_environment();
+    let ends = with_first_end(alloc, language, ends, after, ty)?;
     Ok(Rescuing {
         ends,
         patterns,
@@ -316,7 +316,7 @@ fn else_body<W: Walk, L: Language>(
     })
 }
 
-/// Judges the `else` of a guard, perhaps a missing one, in the environment behind its first body, which has this type.
+/// Judges the `else` of a guard, perhaps a missing one, in the environment after its first body, which has this type.
 pub fn guard_else<W: Walk, L: Language>(
     alloc: Global,
     walk: &W,
@@ -353,7 +353,7 @@ pub fn ensure_names<L: Language>(
 }
 
 /// Judges the body of an `ensure`, by the environment at the guard's entry, and answers the type of the whole, which has these ends. The
-/// context is that behind all parts before it.
+/// context is that after all parts before it.
 pub fn ensure_body<W: Walk, L: Language>(
     alloc: Global,
     walk: &W,
@@ -425,9 +425,9 @@ pub fn ensured<W: Walk, L: Language>(
     }
 }
 
-/// Judges what stands behind the first body of a guard, by the environment at the guard's entry and that behind the body, which has this
+/// Judges what stands after the first body of a guard, by the environment at the guard's entry and that after the body, which has this
 /// type.
-fn behind_first<W: Walk, L: Language>(
+fn after_first<W: Walk, L: Language>(
     alloc: Global,
     walk: &W,
     language: &L,
@@ -435,12 +435,12 @@ fn behind_first<W: Walk, L: Language>(
     state: &mut State,
     start: Rescuing,
     entry: &Environment,
-    behind: Environment,
+    after: Environment,
     first: Ty,
     guarded: &Guarded<Tree>,
 ) -> Result<Ty, NoMemory>
     ensures { IfOk result (λ ty. judged ty (seen_state state.new) ≡ guards_spec.with_ensure (L.the language.now) (known.known_guarded (L.the language.now) guarded.now).ensure (seen_context context.now) (seen_environment entry.now)
-        (guards_spec.with_else (L.the language.now) (known.known_guarded (L.the language.now) guarded.now).otherwise (seen_context context.now) (judged first (moved (seen_environment behind) (seen_state state.old)))
+        (guards_spec.with_else (L.the language.now) (known.known_guarded (L.the language.now) guarded.now).otherwise (seen_context context.now) (judged first (moved (seen_environment after) (seen_state state.old)))
         (guards_spec.with_clauses (L.the language.now) (known.known_guarded (L.the language.now) guarded.now).rescues (seen_context context.now) (passed.seen_rescuing start (seen_state state.old))))) }
 {
     let some = clauses(
@@ -459,7 +459,7 @@ fn behind_first<W: Walk, L: Language>(
         context,
         state,
         some,
-        behind,
+        after,
         first,
         &guarded.otherwise,
     )?;
@@ -496,13 +496,13 @@ pub fn guard<W: Walk, L: Language>(
         &aside.environment,
         state.assigned.as_slice(),
     )?;
-    let behind = state.take_environment();
+    let after = state.take_environment();
     let start = Rescuing {
         ends: no_ends(language),
         patterns,
         visible,
     };
-    let ty = behind_first(
+    let ty = after_first(
         alloc,
         walk,
         language,
@@ -510,7 +510,7 @@ pub fn guard<W: Walk, L: Language>(
         state,
         start,
         &aside.environment,
-        behind,
+        after,
         first,
         guarded,
     )?;

@@ -39,8 +39,8 @@ fn to_head<L: Language>(
     head(alloc, language, context, names.as_slice(), state)
 }
 
-/// Judges a loop whose condition stands behind its body, from its head on. The context is that inside of it.
-fn behind_body<W: Walk, L: Language>(
+/// Judges a loop whose condition stands after its body, from its head on. The context is that inside of it.
+fn after_body<W: Walk, L: Language>(
     alloc: Global,
     walk: &W,
     language: &L,
@@ -68,7 +68,7 @@ fn behind_body<W: Walk, L: Language>(
     loop_body(alloc, walk, language, context, state, outer, tested, body)
 }
 
-/// Judges a statement with `while` or `until` behind it.
+/// Judges a statement with `while` or `until` after it.
 pub fn modified_loop<W: Walk, L: Language>(
     alloc: Global,
     walk: &W,
@@ -83,12 +83,12 @@ pub fn modified_loop<W: Walk, L: Language>(
 {
     let inner = context.in_loop(alloc, language, &state.environment)?;
     let outer = to_head(alloc, language, context, state, condition, statement)?;
-    behind_body(
+    after_body(
         alloc, walk, language, &inner, state, outer, which, condition, statement,
     )
 }
 
-/// Judges the part of a loop behind its condition, and answers the type of the loop. The context is that inside of it, behind the condition.
+/// Judges the part of a loop after its condition, and answers the type of the loop. The context is that inside of it, after the condition.
 pub fn loop_body<W: Walk, L: Language>(
     alloc: Global,
     walk: &W,

@@ -187,7 +187,7 @@ pub struct Keyed {
     values: Items<Ty>,
 }
 
-/// Judges a key and the value behind it.
+/// Judges a key and the value after it.
 fn arrow<W: Walk, L: Language>(
     alloc: Global,
     walk: &W,
@@ -224,7 +224,7 @@ fn arrow<W: Walk, L: Language>(
     )
 }
 
-/// Judges a value behind a label, which is a symbol.
+/// Judges a value after a label, which is a symbol.
 fn label<W: Walk, L: Language>(
     alloc: Global,
     walk: &W,

@@ -17,13 +17,13 @@ returns-in-Other c =
     let some : 0 < length c.loop-rest.rest.now = grind (arith, nat_tests) in
     sym (level_other c.loop-rest.rest.now some (sym c.in-Other.is ∙ c.heading_of.ensures.value)) ∙ c.loop-rest.invariant
 
-within : (c : goal.After-behind-rest) → IsWithin (Passed c.in-Passed.len) (length c.loop-rest.rest.now)
+within : (c : goal.After-after-rest) → IsWithin (Passed c.in-Passed.len) (length c.loop-rest.rest.now)
 within c = let P : Heading → Type 0 = λ h. IsWithin h (length c.loop-rest.rest.now) in subst P c.in-Passed.is c.heading_of.ensures.within
 
 pub loop-rest-preserved : goal.loop-rest-preserved
 loop-rest-preserved c =
     let some : 0 < length c.loop-rest.rest.now = grind (arith, nat_tests) in
-    ap level_of c.behind-rest.ensures ∙ level_passed c.loop-rest.rest.now _ some (sym c.in-Passed.is ∙ c.heading_of.ensures.value) (within c).0 ∙ c.loop-rest.invariant
+    ap level_of c.after-rest.ensures ∙ level_passed c.loop-rest.rest.now _ some (sym c.in-Passed.is ∙ c.heading_of.ensures.value) (within c).0 ∙ c.loop-rest.invariant
 
 pub returns : goal.returns
 returns c =

@@ -14,10 +14,10 @@ loop-rest-preserved c =
     let some : 0 < length z = grind (arith, nat_tests) in
     let within = c.in-Ok.ensures.within in
     let goes = lexed_goes z c.in-Ok.len c.loop-rest.at c.loop-rest.state c.step.new.self some c.in-Ok.ensures.value within.0 within.1 in
-    let shorter : length c.behind-rest.result.now ≡ length z - c.in-Ok.len = ap length c.behind-rest.ensures ∙ length-drop c.in-Ok.len z in
+    let shorter : length c.after-rest.result.now ≡ length z - c.in-Ok.len = ap length c.after-rest.ensures ∙ length-drop c.in-Ok.len z in
     let whole = c.loop-rest.invariant.1 in
     let texts = step_text c.loop-rest.at z c.loop-rest.state c.in-Ok.len c.step.new.self c.in-Ok.ensures.value c.loop-rest.invariant.2 c.loop-rest.invariant.3 within.1 in
-    (ap (lexed_from 0 (c.loop-rest.at + c.in-Ok.len) c.step.new.self) c.behind-rest.ensures ∙ goes ∙ c.loop-rest.invariant.0, omega arith, subst IsUtf8 (sym c.behind-rest.ensures) texts.0, texts.1)
+    (ap (lexed_from 0 (c.loop-rest.at + c.in-Ok.len) c.step.new.self) c.after-rest.ensures ∙ goes ∙ c.loop-rest.invariant.0, omega arith, subst IsUtf8 (sym c.after-rest.ensures) texts.0, texts.1)
 
 pub returns-in-Err : goal.returns-in-Err
 unfolding lexed

@@ -4,5 +4,5 @@ use Rattle.run_core.proofs.law.legality_lasts.Goals as goal
 pub returns-clause-parts : goal.returns-clause-parts
 returns-clause-parts c = legal_part
 
-pub returns-clause-behind : goal.returns-clause-behind
-returns-clause-behind c = legal_stays
+pub returns-clause-after : goal.returns-clause-after
+returns-clause-after c = legal_stays

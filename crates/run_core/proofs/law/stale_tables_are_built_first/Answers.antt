@@ -5,5 +5,5 @@ pub returns-clause-builds : goal.returns-clause-builds
 returns-clause-builds c = builds_where_stale
 
 pub returns-clause-works : goal.returns-clause-works
-returns-clause-works c = λ language base before behind f epoch list shown run stale.
-    works_where_built language base before f epoch list shown behind run stale
+returns-clause-works c = λ language base before after f epoch list shown run stale.
+    works_where_built language base before f epoch list shown after run stale

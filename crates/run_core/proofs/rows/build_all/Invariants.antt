@@ -2,6 +2,6 @@ use Rattle.std.proofs.Common.{◌≡◌, ◌++◌, take, drop}
 use Rattle.run_core.specs.Rows.{after_built}
 use Rattle.run_core.proofs.rows.build_all.Given as goal
 
--- the rows so far are changed, and those behind are as they were
+-- the rows so far are changed, and those after are as they were
 abbrev pub invariant-rows : goal.invariant-rows
 invariant-rows l = l.rows ≡ after_built (take l.index l.initial.rows) ++ drop l.index l.initial.rows

@@ -23,6 +23,6 @@ pub search-preserved : goal.search-preserved
 search-preserved c =
     let middle : c.search.low + (c.search.high - c.search.low) / 2 < length c.args.rows.now = omega (arith, c.search-test.true, c.search.invariant.within) in
     let read = slice_get_read c.args.rows.now _ _ c.index-rows-middle.result refl middle c.index-rows-middle.is in
-    let behind : is_before c.index-rows-middle.result.path c.args.path.now ≡ false =
+    let after : is_before c.index-rows-middle.result.path c.args.path.now ≡ false =
     sym (c.lt.ensures ∙ (λ i. is_lt (slice_cmp nat_cmp ((c.as_str.ensures.text ∙ ap (λ (r : Row). r.path) (sym c.index-rows-middle.is)) i) (c.as_str-in-search.ensures.text i)))) ∙ c.if-lt.false in
-    record { above = c.search.invariant.above; below = place_of-low c.args.path.now c.args.rows.now _ _ read behind; within = omega (arith, middle) }
+    record { above = c.search.invariant.above; below = place_of-low c.args.path.now c.args.rows.now _ _ read after; within = omega (arith, middle) }

@@ -6,8 +6,8 @@ use Rattle.run_watch.proofs.watchers.tell_each.Goals as goal
 pub boxes-init : goal.boxes-init
 boxes-init g c = sifts_none _ _ _ _
 
-pub settle-kept-requires-clause-behind : goal.settle-kept-requires-clause-behind
-settle-kept-requires-clause-behind g c = c.boxes.invariant.behind
+pub settle-kept-requires-clause-after : goal.settle-kept-requires-clause-after
+settle-kept-requires-clause-after g c = c.boxes.invariant.after
 
 pub boxes-preserved : goal.boxes-preserved
 boxes-preserved g c =

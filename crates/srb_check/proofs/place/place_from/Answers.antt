@@ -14,6 +14,6 @@ loop-at-preserved c =
     let at = c.loop-at.at in
     let bytes = c.args.bytes.now in
     c.moved-place.ensures.place
-    ∙ ap (λ rest. moved c.loop-at.place (get_or bytes at 0) rest) c.behind.ensures
+    ∙ ap (λ rest. moved c.loop-at.place (get_or bytes at 0) rest) c.after.ensures
     ∙ ap (λ p. moved p (get_or bytes at 0) (drop (at + 1) bytes)) c.loop-at.invariant
     ∙ sym (place_of-next at bytes 0 (omega arith))

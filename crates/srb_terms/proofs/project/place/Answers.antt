@@ -3,9 +3,9 @@ use Rattle.srb_terms.proofs.ProjectOrder.{put_file-last, put_file-here}
 use Rattle.srb_terms.specs.Projects.{path_cmp}
 use Rattle.srb_terms.proofs.project.place.Goals as goal
 
-pub returns-then-is_behind_all-clause-absent : goal.returns-then-is_behind_all-clause-absent
-returns-then-is_behind_all-clause-absent c =
-    (omega arith, λ bytes. put_file-last _ bytes _ (c.is_behind_all.ensures c.if-is_behind_all.true))
+pub returns-then-is_after_all-clause-absent : goal.returns-then-is_after_all-clause-absent
+returns-then-is_after_all-clause-absent c =
+    (omega arith, λ bytes. put_file-last _ bytes _ (c.is_after_all.ensures c.if-is_after_all.true))
 
 pub returns-in-Equal-clause-found : goal.returns-in-Equal-clause-found
 returns-in-Equal-clause-found c = (

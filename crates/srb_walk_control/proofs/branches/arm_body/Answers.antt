@@ -10,7 +10,7 @@ use Rattle.srb_walk_control.proofs.branches.arm_body.Goals as goal
 pub returns : goal.returns
 returns g c = let the = g.L.Language.the c.args.language.now in
     let s = seen_state c.args.state.now in
-    IfOk-weaker c.behind_condition.result _ _
+    IfOk-weaker c.after_condition.result _ _
     (λ b h. h ∙ ap (λ visible. settled_branching (after_condition the (part_of the c.args.arm.now.body) visible (seen_context c.args.context.now) (ended (seen_ends c.args.ends) s) (seen_tested c.args.tested s)))
     c.in_ok-assigned.ensures)
-    c.behind_condition.ensures
+    c.after_condition.ensures

@@ -14,8 +14,8 @@ returns g c = let the = g.L.Language.the c.args.language.now in
     let test = subject_test the (seen_subject c.args.subject.now) in
     let so_far = seen_fitting c.args.so_far (seen_state c.args.state.now) in
     IfOk-weaker c.with_fit.result _ _
-    (λ f h. ap (λ x. settled_fitting x) (h (seen_state c.pattern_behind.new.state))
-    ∙ fit_is the test (part_of the c.args.tree.now) around so_far (seen_tested c.in_ok-tested.tested (seen_state c.pattern_behind.new.state)) c.assigned.new.found
+    (λ f h. ap (λ x. settled_fitting x) (h (seen_state c.pattern_after.new.state))
+    ∙ fit_is the test (part_of the c.args.tree.now) around so_far (seen_tested c.in_ok-tested.tested (seen_state c.pattern_after.new.state)) c.assigned.new.found
     (c.in_ok-tested.ensures ∙ ap (λ names. settled (test (part_of the c.args.tree.now) (seeing names around) (record (seen_state c.args.state.now) { environment = so_far.rest }))) c.as_slice.ensures)
     c.in_ok-assigned.ensures)
     c.with_fit.ensures

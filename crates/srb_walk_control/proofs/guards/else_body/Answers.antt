@@ -15,9 +15,9 @@ returns g c =
     let entered = moved (seen_environment c.args.entry) (seen_state c.args.state.now) in
     else_is the (seen_rescuing c.args.so_far (seen_state c.args.state.now))
     (c.args.so_far.visible ++ names_of the false c.args.body.now) c.assigned.new.found (seen_ends c.in_ok-ends.ends)
-    (seen_environment c.take_environment-behind.result)
+    (seen_environment c.take_environment-after.result)
     (judged c.in_ok-ty.ty (seen_state c.judge_seeing.new.state)) (judge_of the c.args.body.now (seeing c.args.so_far.visible around) entered)
-    (seen_state c.take_environment-behind.new.self)
+    (seen_state c.take_environment-after.new.self)
     c.in_ok-assigned.ensures
     (c.in_ok-ty.ensures ∙ ap (λ names. judge_of the c.args.body.now (seeing names around) entered) c.as_slice.ensures)
-    c.take_environment-behind.ensures.taken c.in_ok-ends.ensures c.take_environment-behind.ensures.left
+    c.take_environment-after.ensures.taken c.in_ok-ends.ensures c.take_environment-after.ensures.left

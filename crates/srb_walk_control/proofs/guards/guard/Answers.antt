@@ -14,13 +14,13 @@ returns g c =
     let around = seen_context c.args.context.now in
     let part = part_of the c.args.guarded.now.body in
     let entry = seen_environment c.in_ok-aside.aside.environment in
-    guard_is the (known_guarded the c.args.guarded.now) around (seen_state c.args.state.now) (seen_state c.take_environment-behind.new.self)
+    guard_is the (known_guarded the c.args.guarded.now) around (seen_state c.args.state.now) (seen_state c.take_environment-after.new.self)
     (seen_aside c.in_ok-aside.aside) (judged c.in_ok-first.first (seen_state c.judge.new.state))
-    (judged c.in_ok-ty.ty (seen_state c.behind_first.new.state)) (judged c.in_ok-ty.ty (seen_state c.leave_guard.new.state))
-    (seen_ends c.no_ends.result) (seen_environment c.in_ok-patterns.patterns) (seen_environment c.take_environment-behind.result) c.assigned.new.found
+    (judged c.in_ok-ty.ty (seen_state c.after_first.new.state)) (judged c.in_ok-ty.ty (seen_state c.leave_guard.new.state))
+    (seen_ends c.no_ends.result) (seen_environment c.in_ok-patterns.patterns) (seen_environment c.take_environment-after.result) c.assigned.new.found
     c.in_ok-aside.ensures.aside
     (c.in_ok-first.ensures ∙ ap (λ s. part.it.judge around s) c.in_ok-aside.ensures.state)
     (c.in_ok-assigned.ensures ∙ ap (λ names. names ++ part.it.declares) c.new-visible.ensures)
     (c.in_ok-patterns.ensures ∙ ap (λ rows. handled the entry (map seen_row rows)) c.as_slice.ensures)
-    c.take_environment-behind.ensures.taken c.take_environment-behind.ensures.left
+    c.take_environment-after.ensures.taken c.take_environment-after.ensures.left
     c.no_ends.ensures c.in_ok-ty.ensures c.in_ok-leave_guard.ensures

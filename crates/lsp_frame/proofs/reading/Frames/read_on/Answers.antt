@@ -1,5 +1,5 @@
 use Rattle.std.proofs.Common.{ℕ, List, ◌≡◌, ◌<◌, length, sym, ap, ◌∙◌, arith}
-use Rattle.lsp_frame.specs.Bodies.{behind}
+use Rattle.lsp_frame.specs.Bodies.{place_after}
 use Rattle.lsp_frame.specs.declared.reading.FrameEnd.TheVariants.{Broken}
 use Rattle.lsp_frame.specs.First.{first_of}
 use Rattle.lsp_frame.specs.declared.first.First.TheVariants.{More, Refused, Oversized, Frame}
@@ -25,7 +25,7 @@ pub returns-in-Ok-eq0 : goal.returns-in-Ok-eq0
 returns-in-Ok-eq0 g c =
     let first : first_of c.loop-at.self.pending ≡ More = ap first_of (sym c.pending.ensures.pending) ∙ sym c.in-More.ensures in
     let some : 0 < length c.fill.new.self.pending = omega (arith, ap length c.pending-size.ensures.pending) in
-    let ended = c.broken-end-in-Ok-eq0.ensures ∙ ap (λ (l : List ℕ). Broken (behind c.fill.new.self.at (length l))) c.pending-size.ensures.pending in
+    let ended = c.broken-end-in-Ok-eq0.ensures ∙ ap (λ (l : List ℕ). Broken (place_after c.fill.new.self.at (length l))) c.pending-size.ensures.pending in
     closed_next _ _ c.loop-at.self c.fill.new.self _ _ _ _ _ _ _ _ _ _ c.loop-at.invariant.reads first c.loop-at.invariant.same_place c.loop-at.invariant.unfailed c.in-Ok-eq0.ensures c.in-Ok-eq0.field-0-test some ended c.refuse-in-Ok-eq0.ensures.answer c.refuse-in-Ok-eq0.ensures.after
 
 pub returns-in-Err : goal.returns-in-Err

@@ -15,9 +15,9 @@ returns-in_err-next g c =
     let e = turn_left (λ n. bar_names_from (parsed c.args.self.now.depth) c.args.self.now.depth c.args.self.now.takes_do n c.loop-turn.names.keys c.loop-turn.found c.loop-turn.rest.now) _ c.loop-turn._turn c.loop-turn-test.true c.loop-turn.invariant in
     first_of (search rules, grind (arith, common_steps))
 
-pub returns-in_err-behind : goal.returns-in_err-behind
+pub returns-in_err-left : goal.returns-in_err-left
 unfolding bar_names_from
-returns-in_err-behind g c =
+returns-in_err-left g c =
     let e = turn_left (λ n. bar_names_from (parsed c.args.self.now.depth) c.args.self.now.depth c.args.self.now.takes_do n c.loop-turn.names.keys c.loop-turn.found c.loop-turn.rest.now) _ c.loop-turn._turn c.loop-turn-test.true c.loop-turn.invariant in
     first_of (search rules, grind (arith, common_steps))
 

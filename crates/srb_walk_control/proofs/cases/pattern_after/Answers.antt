@@ -3,7 +3,7 @@ use Rattle.std.proofs.lemmas.Result.{IfOk-weaker}
 use Rattle.srb_judgement.specs.Judgements.{part_of}
 use Rattle.srb_judgement.specs.Views.{seen_state, settled}
 use Rattle.srb_walk_control.specs.Passed.{seen_subject, subject_test}
-use Rattle.srb_walk_control.proofs.cases.pattern_behind.Goals as goal
+use Rattle.srb_walk_control.proofs.cases.pattern_after.Goals as goal
 
 pub returns : goal.returns
 returns g c = let the = g.L.Language.the c.args.language.now in

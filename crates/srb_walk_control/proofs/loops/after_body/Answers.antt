@@ -6,7 +6,7 @@ use Rattle.srb_judgement.specs.Views.{seen_left, seen_state, seen_tested, settle
 use Rattle.srb_walk.specs.Assigned.{names_of}
 use Rattle.srb_walk.specs.Judging.{test_of}
 use Rattle.srb_walk_control.proofs.Looping.{inside_is}
-use Rattle.srb_walk_control.proofs.loops.behind_body.Goals as goal
+use Rattle.srb_walk_control.proofs.loops.after_body.Goals as goal
 
 pub returns : goal.returns
 returns g c = let the = g.L.Language.the c.args.language.now in let around = seen_context c.args.context.now in

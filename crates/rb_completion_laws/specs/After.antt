@@ -1,4 +1,4 @@
--- What may stand behind a form.
+-- What may stand after a form.
 use Rattle.std.specs.Prelude.{◌≡◌, Bool, true, false, List}
 use Rattle.rb_tree.specs.declared.token.Token.{Token}
 use Rattle.rb_tree.specs.declared.token.Shape.{Shape}
@@ -6,7 +6,7 @@ use Rattle.rb_tree.specs.declared.token.Shape.TheVariants as shape
 use Rattle.rb_expr.specs.Reading.{peek}
 use Rattle.rb_expr.specs.Shapes.{next_is}
 
--- a token of this shape may change how those before it are read: a power, a number behind a sign, a modifier, or what may not begin
+-- a token of this shape may change how those before it are read: a power, a number after a sign, a modifier, or what may not begin
 -- the arguments of a command
 abbrev pub joins : Shape → Bool
 joins shape.Power = true

@@ -1,7 +1,7 @@
 use Rattle.std.proofs.Common.{◌∙◌, sym, ap}
 use Rattle.std.specs.Option.{option_copied}
 use Rattle.lsp_docs.proofs.RootLemmas.{no_front}
-use Rattle.lsp_docs.proofs.uris.ruby_behind.Goals as goal
+use Rattle.lsp_docs.proofs.uris.ruby_after.Goals as goal
 
 pub returns-in_err-before : goal.returns-in_err-before
 returns-in_err-before c =

@@ -2,13 +2,13 @@ use Rattle.srb_judgement.specs.Kept.{seen_context}
 use Rattle.srb_judgement.specs.Views.{seen_environment, seen_state}
 use Rattle.srb_walk.specs.Known.{known_rescue}
 use Rattle.srb_walk_control.specs.Passed.{seen_rescuing}
-use Rattle.srb_walk_control.proofs.Guarding.{behind_is}
-use Rattle.srb_walk_control.proofs.guards.behind_patterns.Goals as goal
+use Rattle.srb_walk_control.proofs.Guarding.{after_is}
+use Rattle.srb_walk_control.proofs.guards.after_patterns.Goals as goal
 
 pub returns : goal.returns
 returns g c =
     let the = g.L.Language.the c.args.language.now in
     let before = seen_state c.args.state.now in
-    behind_is the (known_rescue the c.args.clause.now) (seen_context c.args.context.now) (seen_rescuing c.args.so_far before) before
+    after_is the (known_rescue the c.args.clause.now) (seen_context c.args.context.now) (seen_rescuing c.args.so_far before) before
     (seen_state c.catch_all.new.state) c.add_caught.new.visible (seen_environment c.in_ok-patterns.patterns)
     c.in_ok-add_caught.ensures c.in_ok-patterns.ensures c.in_ok-catch_all.ensures

@@ -6,13 +6,13 @@ use Rattle.srb_judgement.specs.Views.{seen_environment, seen_state}
 use Rattle.srb_walk.specs.Known.{known_option, known_rescues}
 use Rattle.srb_walk_control.specs.Passed.{seen_rescuing, settled_rescuing}
 use Rattle.srb_walk_control.proofs.Guarding.{rest_is}
-use Rattle.srb_walk_control.proofs.guards.behind_first.Goals as goal
+use Rattle.srb_walk_control.proofs.guards.after_first.Goals as goal
 
 pub returns : goal.returns
 returns g c = let the = g.L.Language.the c.args.language.now in
     subst (λ j. IfOk c.ensured.result (λ ty. judged ty (seen_state c.ensured.new.state) ≡ j))
     (rest_is the (known_rescues the c.args.guarded.now.rescues) (known_option the c.args.guarded.now.otherwise) (known_option the c.args.guarded.now.ensure)
-    (seen_context c.args.context.now) (seen_environment c.args.entry.now) c.args.first (seen_environment c.args.behind)
+    (seen_context c.args.context.now) (seen_environment c.args.entry.now) c.args.first (seen_environment c.args.after)
     (seen_state c.args.state.now) (seen_state c.clauses.new.state) (seen_rescuing c.args.start (seen_state c.args.state.now))
     (seen_rescuing c.in_ok-some.some (seen_state c.clauses.new.state)) (seen_rescuing c.in_ok-all.all (seen_state c.guard_else.new.state))
     (c.in_ok-some.ensures ∙ ap (λ row. settled_rescuing (with_clauses the (known_rescues the row) (seen_context c.args.context.now) (seen_rescuing c.args.start (seen_state c.args.state.now)))) c.as_slice.ensures)
