@@ -515,12 +515,12 @@ begun_core d new agreed phase stale rows job core is = record {
   built = λ begun no. absurd (grind (arith, no));
 }
 
-abbrev account : State → ℕ → Account
-account s checks = record { state = s; own_checks = checks }
+abbrev account : State → ℕ → Bool → Account
+account s checks idle = record { state = s; own_checks = checks; idle = idle }
 
-pub closing_core : (d : Documents) (phase : Phase) (rows : List Row) (epoch : ℕ) (stale seen : Bool) (owing : Option Id) (ended : Option EndCause) (checks : ℕ) (job : Known) (a : Account)
-    → account (state_of d phase rows epoch stale seen owing ended) checks ≡ a → a.state.session.phase ≡ Serving → IsCore phase d stale rows job → IsCore Closing d stale rows job
-closing_core d phase rows epoch stale seen owing ended checks job a view serving core = record {
+pub closing_core : (d : Documents) (phase : Phase) (rows : List Row) (epoch : ℕ) (stale seen : Bool) (owing : Option Id) (ended : Option EndCause) (checks : ℕ) (idle : Bool) (job : Known) (a : Account)
+    → account (state_of d phase rows epoch stale seen owing ended) checks idle ≡ a → a.state.session.phase ≡ Serving → IsCore phase d stale rows job → IsCore Closing d stale rows job
+closing_core d phase rows epoch stale seen owing ended checks idle job a view serving core = record {
   paths = core.paths;
   asked = core.asked;
   waiting = λ yes. absurd (grind (arith, yes));

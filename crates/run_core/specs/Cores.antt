@@ -1,5 +1,5 @@
 -- What a core tells, and what each of its calls does.
-use Rattle.std.specs.Prelude.{◌≡◌, ◌≢◌, ◌⊎◌, ℕ, ◌+◌, ◌-◌, ◌^◌, min, Bool, true, false, not, ◌&&◌, List, [], map, Option, Some, None, unwrap_or, IsTrue, IsFalse, if◌then◌else◌}
+use Rattle.std.specs.Prelude.{◌≡◌, ◌≢◌, ◌⊎◌, ℕ, ◌+◌, ◌-◌, ◌^◌, min, Bool, true, false, not, ◌&&◌, List, [], map, Option, Some, None, is_none, unwrap_or, IsTrue, IsFalse, if◌then◌else◌}
 use Rattle.std.specs.Option.{option_map}
 use Rattle.srb_check.specs.Checks.{fresh}
 use Rattle.srb_check.specs.FactLists.{same_facts}
@@ -37,10 +37,11 @@ keeps_facts p e = same_facts (facts_in (bytes_at e.path p)) (facts_in e.now)
 abbrev pub checked_language : Language
 checked_language = record { fresh = fresh; keeps = keeps_facts }
 
--- What a core tells: its state, and how many files it worked on that weren't owed.
+-- What a core tells: its state, how many files it worked on that weren't owed, and whether it took nothing since its last idle step, or ever.
 pub record Account : Type 0 where
   pub state : State
   pub own_checks : ℕ
+  pub idle : Bool
 
 -- The step is permitted, and this is the state that it leaves and the message that it writes.
 pub record Makes (old new : State) (step : Step) (answer : Option Out) : Type 0 where
@@ -76,6 +77,10 @@ Lands old new (Quiet step) = IsWork old false step × Makes old new step None
 -- exactly where none is. The number stays at the greatest of 64 bits.
 abbrev pub checks_after : Account → ℕ
 checks_after a = if is_empty a.state.owed then min (a.own_checks + 1) (2 ^ 64 - 1) else a.own_checks
+
+-- it took nothing since its last idle step, or ever, and owes no reply
+abbrev pub is_idle : Account → Bool
+is_idle a = a.idle && is_none a.state.owing
 
 -- `shutdown` was accepted
 abbrev pub is_closing : Phase → Bool

@@ -9,3 +9,5 @@ pub mod Cores
 pub mod Runs
 pub mod Counts
 pub mod Order
+pub mod Inputs
+pub mod Frames

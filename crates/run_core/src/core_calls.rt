@@ -1,6 +1,6 @@
 //! The core and its calls, each of which makes one step of the machine or tells of its state.
 
-ghost use Rattle.std.specs.Prelude.{◌≡◌, ◌+◌, ◌-◌, ◌^◌, ◌<◌, ◌≤◌, ◌||◌, true, not, length, None, is_some, IsTrue, IsFalse, IsNone, IsSome, IfOk, OnOk, OnErr};
+ghost use Rattle.std.specs.Prelude.{◌≡◌, ◌+◌, ◌-◌, ◌^◌, ◌<◌, ◌≤◌, ◌||◌, true, false, not, length, None, is_some, IsTrue, IsFalse, IsNone, IsSome, IfOk, OnOk, OnErr};
 ghost use Rattle.std.specs.Option.{option_copied, option_map};
 ghost use Rattle.lsp_docs.specs.Documents.{MOST_FILES, applied};
 ghost use Rattle.srb_text.specs.Limits.{MOST_BYTES};
@@ -10,7 +10,7 @@ ghost use Rattle.run_watch.specs.declared.inp.Inp.TheVariants as inp;
 ghost use Rattle.run_watch.specs.declared.step.Step.TheVariants.{Take, Look, Build, Idle};
 ghost use Rattle.srb_check.specs.Records.{loaded};
 ghost use Rattle.srb_terms.specs.Projects.{bytes_at};
-ghost use Rattle.run_core.specs.Cores.{Lands, Makes, IsEdited, IsNextOwn, after_edit_at, checks_after, end_of, ended_by, has_own, keeps_at};
+ghost use Rattle.run_core.specs.Cores.{Lands, Makes, IsEdited, IsNextOwn, after_edit_at, checks_after, end_of, ended_by, has_own, is_idle, keeps_at};
 ghost use Rattle.run_core.specs.Machine.{is_at_rest, looked, opening, project_of};
 ghost use Rattle.run_core.specs.Sessions.{Waiting, Serving};
 
@@ -30,7 +30,7 @@ use std::marker::Model;
 use std::sync::ledger::Ledger;
 
 /// The core of a session: its documents, the project as it was built last, what is to be worked on, and what was written
-/// last of each file. A contract sees its `Account`: the state of the machine, and a count.
+/// last of each file. A contract sees its `Account`: the state of the machine, a count, and whether it is idle.
 #[derive(Drop)]
 pub struct Core {
     docs: Docs,
@@ -43,6 +43,7 @@ pub struct Core {
     owing: Option<Id>,
     ended: Option<EndCause>,
     own_checks: u64,
+    idle: bool,
 }
 
 impl Model for Core {
@@ -50,7 +51,7 @@ impl Model for Core {
 
     ghost Value = { Account };
 
-    ghost view = { λ c. record { state = state_of c.docs c.phase c.rows.list c.epoch c.stale c.seen c.owing c.ended; own_checks = c.own_checks } };
+    ghost view = { λ c. record { state = state_of c.docs c.phase c.rows.list c.epoch c.stale c.seen c.owing c.ended; own_checks = c.own_checks; idle = c.idle } };
 
     ghost invariant = { λ c. IsCore c.phase c.docs c.stale c.rows.list c.job };
 }
@@ -63,6 +64,7 @@ impl Core {
         requires bytes { total_bytes files ≤ MOST_BYTES }
         ensures state { IfOk result (λ core. core.state ≡ opening files) }
         ensures checks { IfOk result (λ core. core.own_checks ≡ 0) }
+        ensures idle { IfOk result (λ core. core.idle ≡ true) }
     {
         let job = Job::empty(alloc)?;
         let rows = Rows::new(alloc, &files)?;
@@ -78,6 +80,7 @@ impl Core {
             owing: None,
             ended: None,
             own_checks: 0,
+            idle: true,
         })
     }
 
@@ -89,13 +92,19 @@ impl Core {
         ensures makes { IfOk result (λ out. Makes self.old.state self.new.state (Take inp) out) }
         ensures ended { OnOk result (self.new.state.ended ≡ ended_by inp) }
         ensures checks { self.new.own_checks ≡ self.old.own_checks }
+        ensures idle { OnOk result (self.new.idle ≡ false) }
         ensures err { OnErr result (self.new ≡ self.old) }
     {
         match inp {
-            Inp::Msg(msg) => self.take_message(alloc, msg),
+            Inp::Msg(msg) => {
+                let out = self.take_message(alloc, msg)?;
+                self.idle = false;
+                Ok(out)
+            }
             Inp::End(cause) => {
                 self.ended = Some(cause);
                 self.seen = false;
+                self.idle = false;
                 Ok(None)
             }
         }
@@ -275,6 +284,7 @@ impl Core {
         ensures makes { Makes self.old.state self.new.state Look None }
         ensures seen { self.new.state ≡ record self.old.state { seen = true } }
         ensures checks { self.new.own_checks ≡ self.old.own_checks }
+        ensures idle { self.new.idle ≡ self.old.idle }
     {
         self.seen = true;
     }
@@ -289,6 +299,7 @@ impl Core {
         ensures built { OnOk result (IsFalse self.new.state.stale) }
         ensures ended { self.new.state.ended ≡ self.old.state.ended }
         ensures checks { self.new.own_checks ≡ self.old.own_checks }
+        ensures idle { self.new.idle ≡ self.old.idle }
         ensures err { OnErr result (self.new ≡ self.old) }
     {
         let job = job_of(alloc, &self.docs, &self.job)?;
@@ -326,6 +337,7 @@ impl Core {
         ensures counted { OnOk result (steps.new ≡ steps.old + 1) }
         ensures checks { OnOk result (self.new.own_checks ≡ checks_after self.old) }
         ensures fewer { OnOk result (length self.new.state.todo < length self.old.state.todo) }
+        ensures idle { self.new.idle ≡ self.old.idle }
         ensures stale { self.new.state.stale ≡ self.old.state.stale }
         ensures ended { self.new.state.ended ≡ self.old.state.ended }
         ensures err { OnErr result (self.new ≡ self.old) }
@@ -377,6 +389,13 @@ impl Core {
         self.stale
     }
 
+    /// Whether nothing was taken since the last call of `idle`, or ever, and no reply is owed.
+    pub fn is_idle(&self) -> bool
+        ensures { result ≡ is_idle self.now }
+    {
+        self.idle && self.owing.is_none()
+    }
+
     /// The number of files that `check_own` worked on and that weren't owed. It stays at the greatest `u64`.
     pub fn own_checks(&self) -> u64
         ensures { result ≡ self.now.own_checks }
@@ -403,9 +422,11 @@ impl Core {
         ensures makes { IfOk result (Makes self.old.state self.new.state Idle) }
         ensures ended { self.new.state.ended ≡ self.old.state.ended }
         ensures checks { self.new.own_checks ≡ self.old.own_checks }
+        ensures idle { OnOk result (IsTrue (is_idle self.new)) }
         ensures err { OnErr result (self.new ≡ self.old) }
     {
         let _alloc = alloc;
+        self.idle = true;
         match self.owing.take() {
             Some(id) => Ok(Some(Out::Null { id })),
             None => Ok(None),

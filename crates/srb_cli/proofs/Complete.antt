@@ -16,12 +16,14 @@ use Rattle.lsp_frame.specs.Bodies.Ending.{Closed, Torn, Malformed, PastLimit}
 use Rattle.lsp_msg.specs.Decoded.{decoded}
 use Rattle.lsp_docs.specs.Projects.{Project, paths_of, total_bytes}
 use Rattle.run_watch.specs.declared.end_cause.EndCause.TheVariants as end
-use Rattle.srb_cli.specs.Course.{Course, Listing, NoFileFailed, NoReadFailed, NoWriteFailed}
-use Rattle.srb_cli.specs.Folders.{IsTold, AreTold, IsFolder, IsWithin, IsPastFiles, IsPastBytes, IsUnread}
-use Rattle.srb_cli.specs.Inputs.{has_exit, end_of, end_after, cause_of, GoesOn}
-use Rattle.srb_cli.specs.Served.{ServesWhole, has_failed, is_shut}
-use Rattle.srb_cli.specs.Inputs.{messages_of}
-use Rattle.srb_cli.specs.Ends.{EndsChecking, EndsServing, Checks, Serves, IsChecked, IsServed}
+use Rattle.run_serve.specs.Course.{Course, NoReadFailed, NoWriteFailed}
+use Rattle.run_serve.specs.Projects.{IsWithin}
+use Rattle.srb_cli.specs.Listings.{Listing, NoFileFailed}
+use Rattle.srb_cli.specs.Folders.{IsTold, AreTold, IsFolder, IsPastFiles, IsPastBytes, IsUnread}
+use Rattle.run_core.specs.Inputs.{messages_of, has_exit, end_of, end_after, GoesOn}
+use Rattle.run_serve.specs.Causes.{cause_of}
+use Rattle.run_serve.specs.Served.{ServesWhole, Serves, has_failed, is_shut}
+use Rattle.srb_cli.specs.Ends.{EndsChecking, EndsServing, Checks, IsChecked, IsServed}
 use Rattle.srb_cli.proofs.Folders.{length-paths_of, total_bytes-append}
 use Rattle.srb_cli.proofs.Lasting.{end_lasts}
 

@@ -3,8 +3,10 @@ use Rattle.std.proofs.Common.{◌≡◌, Bool, true, false, if◌then◌else◌,
 use Rattle.std.specs.Prelude.{MatchBool, MatchOption}
 use Rattle.std.proofs.lemmas.Slice.Eq.{bytes_eq-Decides}
 use Rattle.srb_terms.specs.declared.cause.Cause.{Cause}
-use Rattle.srb_cli.specs.Course.{Course, Listing, NoFileFailed}
-use Rattle.srb_cli.specs.Recorded.{Tracing, RecordsNothing, RecordsServing, IsRecorded}
+use Rattle.run_serve.specs.Course.{Course}
+use Rattle.run_serve.specs.Recorded.{Tracing, RecordsNothing}
+use Rattle.srb_cli.specs.Listings.{Listing, NoFileFailed}
+use Rattle.srb_cli.specs.Recorded.{RecordsServing, IsRecorded}
 use Rattle.srb_cli.specs.Ends.{Ends, EndsText, EndsUsage, EndsChecking, EndsServing}
 use Rattle.srb_cli.specs.Usage.{is_text, only_folder, checked_folder, served_folder, checks_once}
 

@@ -15,7 +15,8 @@ use Rattle.srb_terms.proofs.ProjectOrder.{put_file-after}
 use Rattle.lsp_docs.specs.Projects.{paths_of, total_bytes}
 use Rattle.srb_terms.specs.declared.cause.Cause.{Cause}
 use Rattle.srb_terms.specs.declared.cause.Cause.TheVariants.{Done, Errors, NoShutdown, Usage, ReadFault, WriteFault, Broken, TooLong, TooMany, TooBig, NoMemory}
-use Rattle.srb_cli.specs.Folders.{IsTold, AreTold, IsFolder, IsWithin, IsUnread, IsFileUnread, IsPastBytes}
+use Rattle.run_serve.specs.Projects.{IsWithin}
+use Rattle.srb_cli.specs.Folders.{IsTold, AreTold, IsFolder, IsUnread, IsFileUnread, IsPastBytes}
 
 -- ---- in order
 

@@ -5,7 +5,7 @@ use Rattle.lsp_frame.specs.declared.first.First.TheVariants.{More, Refused, Over
 use Rattle.lsp_frame.specs.First.{first_of}
 use Rattle.lsp_frame.specs.Bodies.{Bodies, place_after, bodies_after, bodies_of, first_bodies}
 use Rattle.lsp_frame.proofs.FirstLemmas.{first_of-append}
-use Rattle.srb_cli.specs.Inputs.{GoesOn}
+use Rattle.run_core.specs.Inputs.{GoesOn}
 
 -- what a first frame makes of the bytes at a place and after it
 abbrev through : First → ℕ → ℕ → List ℕ → Bodies

@@ -12,9 +12,11 @@ use Rattle.srb_text.specs.Limits.{MOST_BYTES}
 use Rattle.lsp_frame.specs.Bodies.{bodies_of}
 use Rattle.lsp_frame.specs.Bodies.Ending.{Closed}
 use Rattle.srb_cli.specs.Usage.{is_text, checked_folder, served_folder, usage_line}
-use Rattle.srb_cli.specs.Course.{Course, Listing, NoFileFailed, NoReadFailed, NoWriteFailed, AReadFailed, AWriteFailed, Writes, WritesPart, ReadsNothing, IsUntouched}
-use Rattle.srb_cli.specs.Folders.{IsFolder, IsWithin, IsUnread}
-use Rattle.srb_cli.specs.Served.{ServesWhole, ServesPart, ServesFront}
+use Rattle.run_serve.specs.Course.{Course, NoReadFailed, NoWriteFailed, AReadFailed, AWriteFailed, Writes, WritesPart, ReadsNothing, IsUntouched}
+use Rattle.run_serve.specs.Projects.{IsWithin}
+use Rattle.run_serve.specs.Served.{Serves}
+use Rattle.srb_cli.specs.Listings.{Listing, NoFileFailed}
+use Rattle.srb_cli.specs.Folders.{IsFolder, IsUnread}
 
 -- ---- the command `text`
 
@@ -106,20 +108,6 @@ EndsChecking dir cause c f =
     EndsBefore dir cause c f ⊎ ((base : Project) × Gives dir base f × ReadsNothing c × Checks base cause c)
 
 -- ---- the command `lsp DIR`
-
--- how a session over a project ends, cause by cause: the others never come
-abbrev pub Serves : Project → Cause → Course → Type 0
-Serves base Done c = ServesWhole base Done c
-Serves base NoShutdown c = ServesWhole base NoShutdown c
-Serves base ReadFault c = ServesWhole base ReadFault c
-Serves base (Broken at) c = ServesWhole base (Broken at) c
-Serves base (TooLong size) c = ServesWhole base (TooLong size) c
-Serves base WriteFault c = ServesPart base c
-Serves base NoMemory c = ServesFront base c
-Serves base Errors c = ⊥
-Serves base Usage c = ⊥
-Serves base (TooMany files) c = ⊥
-Serves base (TooBig path) c = ⊥
 
 -- how the command ends: before the session or in it
 abbrev pub EndsServing : List ℕ → Cause → Course → Listing → Type 0

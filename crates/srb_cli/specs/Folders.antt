@@ -25,11 +25,6 @@ pub record IsFolder (told : Option (List File)) (base : Project) : Type 0 where
   pub listed : AreListed told (paths_of base)
   pub read : AreTold told base
 
--- it has no more files and no more bytes than a project may have
-pub record IsWithin (base : Project) : Type 0 where
-  pub files : length base ≤ MOST_FILES
-  pub bytes : total_bytes base ≤ MOST_BYTES
-
 -- so many paths were listed, which are more files than a project may have
 pub record IsPastFiles (told : Option (List File)) (count : ℕ) : Type 0 where
   pub paths : List (List ℕ)

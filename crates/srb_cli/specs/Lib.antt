@@ -1,8 +1,5 @@
-pub mod Course
 pub mod Ends
 pub mod Folders
-pub mod Inputs
+pub mod Listings
 pub mod Recorded
-pub mod Served
-pub mod Talks
 pub mod Usage

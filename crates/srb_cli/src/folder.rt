@@ -2,7 +2,8 @@ ghost use Rattle.std.specs.Prelude.{◌≡◌, ◌-◌, ◌^◌, ◌<◌, ◌≤
 ghost use Rattle.lsp_docs.specs.Documents.{MOST_FILES};
 ghost use Rattle.srb_text.specs.Limits.{MOST_BYTES};
 ghost use Rattle.srb_io.specs.Files.{AreInOrder, AreListed};
-ghost use Rattle.srb_cli.specs.Folders.{IsFolder, IsWithin, IsUnread, IsTold, IsFileUnread};
+ghost use Rattle.run_serve.specs.Projects.{IsWithin};
+ghost use Rattle.srb_cli.specs.Folders.{IsFolder, IsUnread, IsTold, IsFileUnread};
 
 use lsp_docs::FILES_LIMIT;
 use srb_io::{Files, FilesEnd};

@@ -11,7 +11,6 @@ mod one_thread;
 mod record_tests;
 mod report;
 mod serving;
-mod session;
 #[cfg(test)]
 mod session_tests;
 #[cfg(test)]

@@ -3,15 +3,16 @@ ghost use Rattle.srb_cli.specs.Ends.{EndsServing};
 ghost use Rattle.srb_cli.specs.Recorded.{RecordsServing};
 
 use crate::folder::read_folder;
-use crate::session::serve;
+use run_serve::serve;
 use run_watch::Trace;
 use srb_io::{Files, Sink, Source};
 use srb_terms::Cause;
 use std::alloc::Global;
 use std::sync::Wait;
+use std::thread::Threads;
 
 /// Reads the files below `dir`, and serves a session over them.
-pub fn lsp<R: Wait, F: Files, S: Source, K: Sink, T: Trace>(
+pub fn lsp<R: Threads + Wait + Sync, F: Files, S: Source + Send, K: Sink + Send, T: Trace + Send>(
     rt: &R,
     alloc: Global,
     dir: &str,
@@ -56,7 +57,7 @@ pub fn lsp<R: Wait, F: Files, S: Source, K: Sink, T: Trace>(
     } }
 {
     match read_folder(alloc, files, dir) {
-        Ok(project) => serve(rt, alloc, project, source, sink, trace),
+        Ok(project) => serve(rt, alloc, project, source, sink, trace).cause,
         Err(cause) => cause,
     }
 }

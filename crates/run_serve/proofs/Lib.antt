@@ -1,0 +1,5 @@
+pub mod Deeds
+pub mod Hearing
+pub mod Rounds
+pub mod Sending
+pub mod Sessions

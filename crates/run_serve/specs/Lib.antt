@@ -1,0 +1,7 @@
+pub mod Causes
+pub mod Course
+pub mod Deeds
+pub mod Hearing
+pub mod Projects
+pub mod Recorded
+pub mod Served

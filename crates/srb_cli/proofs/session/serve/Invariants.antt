@@ -1,4 +1,0 @@
-use Rattle.srb_cli.proofs.session.serve.Given as goal
-
-abbrev pub ghosts-serve_counting : goal.ghosts-serve_counting
-ghosts-serve_counting g a = record { name = a.blank.name; parts = a.blank.parts }
