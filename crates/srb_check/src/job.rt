@@ -1,4 +1,4 @@
-ghost use Rattle.std.specs.Prelude.{◌≡◌, ◌↔◌, ◌+◌, ℕ, List, [], map, slice_get, IsTrue, IfOk, IfSome};
+ghost use Rattle.std.specs.Prelude.{◌≡◌, ◌↔◌, ◌+◌, ℕ, List, [], length, map, slice_get, IsTrue, IfOk, IfSome};
 ghost use Rattle.std.specs.Option.{option_copied, option_map};
 ghost use Rattle.srb_terms.specs.Projects.{File, IsProject, bytes_at};
 ghost use Rattle.srb_check.specs.Checks.{fresh, fresh_of};
@@ -102,6 +102,20 @@ impl Job {
             Some(record) => record.copied(),
             None => Boxed::new(alloc, load(alloc, bytes)?),
         }
+    }
+
+    /// The number of files.
+    pub fn len(&self) -> usize
+        ensures { result ≡ length self.now.files.paths }
+    {
+        self.paths.len()
+    }
+
+    /// The path of the file at an index. `None` exactly where there are no more than so many files.
+    pub fn path_at(&self, index: usize) -> Option<&Name>
+        ensures { option_copied result ≡ slice_get self.now.files.paths index }
+    {
+        self.paths.get(index)
     }
 
     /// The errors of the file at an index, none where there are no more than so many files. It counts one step, whatever it answers.
