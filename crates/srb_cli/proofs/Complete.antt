@@ -1,6 +1,6 @@
 -- Where nothing failed and all is within the limits, files are checked and a session is served.
 use Rattle.std.proofs.Common.{◌≡◌, inl, inr, ℕ, ◌+◌, ◌≤◌, nat_lt, Bool, true, false, ◌||◌, if◌then◌else◌, List, [], ◌∷◌, ◌++◌, length, map, None, Some, refl, sym, ap, ◌∙◌, subst, arith, append-nil, bytes_eq}
-use Rattle.std.specs.Prelude.{Option, unwrap_or}
+use Rattle.std.specs.Prelude.{Option, IfSome, ◌<◌, unwrap_or}
 use Rattle.std.specs.Io.KnownBytes.{Consumes, IsAtEnd}
 use Rattle.std.specs.Cmp.Lexicographic.{slice_cmp, nat_list_cmp_total, texts_ties}
 use Rattle.std.specs.Ordering.{nat_cmp, is_eq, ordering_reverse}
@@ -18,12 +18,13 @@ use Rattle.lsp_docs.specs.Projects.{Project, paths_of, total_bytes}
 use Rattle.run_watch.specs.declared.end_cause.EndCause.TheVariants as end
 use Rattle.run_serve.specs.Course.{Course, NoReadFailed, NoWriteFailed}
 use Rattle.run_serve.specs.Projects.{IsWithin}
-use Rattle.srb_cli.specs.Listings.{Listing, NoFileFailed}
 use Rattle.srb_cli.specs.Folders.{IsTold, AreTold, IsFolder, IsPastFiles, IsPastBytes, IsUnread}
 use Rattle.run_core.specs.Inputs.{messages_of, has_exit, end_of, end_after, GoesOn}
 use Rattle.run_serve.specs.Causes.{cause_of}
 use Rattle.run_serve.specs.Served.{ServesWhole, Serves, has_failed, is_shut}
-use Rattle.srb_cli.specs.Ends.{EndsChecking, EndsServing, Checks, IsChecked, IsServed}
+use Rattle.srb_cli.specs.Ends.{Checks, EndsText}
+use Rattle.srb_cli.specs.Laws.{IsChecked, IsServed, TextsAreChecked, FoldersAreChecked, SessionsAreServed}
+use Rattle.srb_text.specs.Limits.{MOST_BYTES}
 use Rattle.srb_cli.proofs.Folders.{length-paths_of, total_bytes-append}
 use Rattle.srb_cli.proofs.Lasting.{end_lasts}
 
@@ -205,15 +206,14 @@ serves base Usage c bytes told closed reads writes s = absurd s
 serves base (TooMany files) c bytes told closed reads writes s = absurd s
 serves base (TooBig path) c bytes told closed reads writes s = absurd s
 
-pub served_whole : (dir : List ℕ) (cause : Cause) (c : Course) (f : Listing) → EndsServing dir cause c f → (files : List File) → f.told dir ≡ Some files
-    → (base : Project) → IsFolder (Some files) base → IsWithin base → (bytes : List ℕ) → c.left_before ≡ Some bytes → (bodies_of bytes).end ≡ Closed
-    → NoFileFailed f → NoReadFailed c → NoWriteFailed c → IsServed cause
-served_whole dir cause c f (inl before) files told base folder within bytes left closed listed reads writes =
+pub sessions_are_served : SessionsAreServed
+sessions_are_served cause dir workers o (inl before) listed bytes left closed reads writes =
+    let f = o.listing in
     let none : cause ≡ NoMemory =
-    unread files base cause f.failed_before f.failed_after folder within listed (subst (λ o. IsUnread cause o f.failed_before f.failed_after) told before.1) in
+    unread listed.files listed.base cause f.failed_before f.failed_after listed.folder listed.within listed.unfailed
+    (subst (λ k. IsUnread cause k f.failed_before f.failed_after) listed.told before.0.1) in
     subst IsServed (sym none) tt
-served_whole dir cause c f (inr (b, begun, s)) files told base folder within bytes left closed listed reads writes =
-    serves b cause c bytes left closed reads writes s
+sessions_are_served cause dir workers o (inr (b, given, s)) listed bytes left closed reads writes = serves b cause o.course bytes left closed reads writes s.0
 
 -- ---- the end of a check
 
@@ -230,10 +230,32 @@ checked base (TooLong size) c writes s = absurd s
 checked base (TooMany files) c writes s = absurd s
 checked base (TooBig path) c writes s = absurd s
 
-pub checked_whole : (dir : List ℕ) (cause : Cause) (c : Course) (f : Listing) → EndsChecking dir cause c f → (files : List File) → f.told dir ≡ Some files
-    → (base : Project) → IsFolder (Some files) base → IsWithin base → NoFileFailed f → NoWriteFailed c → IsChecked cause
-checked_whole dir cause c f (inl before) files told base folder within listed writes =
+pub folders_are_checked : FoldersAreChecked
+folders_are_checked cause dir o (inl before, quiet) listed writes =
+    let f = o.listing in
     let none : cause ≡ NoMemory =
-    unread files base cause f.failed_before f.failed_after folder within listed (subst (λ o. IsUnread cause o f.failed_before f.failed_after) told before.1) in
+    unread listed.files listed.base cause f.failed_before f.failed_after listed.folder listed.within listed.unfailed
+    (subst (λ k. IsUnread cause k f.failed_before f.failed_after) listed.told before.1) in
     subst IsChecked (sym none) tt
-checked_whole dir cause c f (inr (b, given, nothing, s)) files told base folder within listed writes = checked b cause c writes s
+folders_are_checked cause dir o (inr (b, given, nothing, s), quiet) listed writes = checked b cause o.course writes s
+
+-- ---- the end of `text`
+
+text_checked : (cause : Cause) (c : Course) (bytes : List ℕ) → c.left_before ≡ Some bytes → length bytes ≤ MOST_BYTES → NoReadFailed c → NoWriteFailed c
+    → EndsText cause c → IsChecked cause
+text_checked Done c bytes told small reads writes e = tt
+text_checked Errors c bytes told small reads writes e = tt
+text_checked NoMemory c bytes told small reads writes e = tt
+text_checked ReadFault c bytes told small reads writes e = absurd (omega (arith, reads, e.0))
+text_checked WriteFault c bytes told small reads writes e = absurd (omega (arith, writes, e.3))
+text_checked (TooBig path) c bytes told small reads writes e =
+    let big = subst (λ o. IfSome o (λ b. MOST_BYTES < length b)) told e.1 in
+    absurd (omega (arith, small, big))
+text_checked NoShutdown c bytes told small reads writes e = absurd e
+text_checked Usage c bytes told small reads writes e = absurd e
+text_checked (Broken at) c bytes told small reads writes e = absurd e
+text_checked (TooLong size) c bytes told small reads writes e = absurd e
+text_checked (TooMany files) c bytes told small reads writes e = absurd e
+
+pub texts_are_checked : TextsAreChecked
+texts_are_checked cause o ends bytes told small reads writes = text_checked cause o.course bytes told small reads writes ends.0

@@ -1,4 +1,4 @@
 pub mod Complete
-pub mod Exclusive
 pub mod Folders
 pub mod Lasting
+pub mod TooMany

@@ -1,5 +1,7 @@
+pub mod Commands
 pub mod Ends
 pub mod Folders
+pub mod Laws
 pub mod Listings
-pub mod Recorded
-pub mod Usage
+pub mod Outside
+pub mod Seen

@@ -2,10 +2,12 @@
 #![tactic(auto)]
 
 mod checking;
+mod command;
 mod commands;
 mod folder;
 #[cfg(test)]
 mod folder_tests;
+pub mod laws;
 mod one_thread;
 #[cfg(test)]
 mod record_tests;
@@ -16,7 +18,6 @@ mod session_tests;
 #[cfg(test)]
 mod tests;
 mod text;
-mod usage;
 
 use commands::run;
 use run_watch::NoTrace;

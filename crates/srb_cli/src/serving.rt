@@ -1,6 +1,6 @@
 ghost use Rattle.std.specs.Prelude.{◌≡◌, ◌-◌, ◌^◌, ◌<◌};
 ghost use Rattle.srb_cli.specs.Ends.{EndsServing};
-ghost use Rattle.srb_cli.specs.Recorded.{RecordsServing};
+ghost use Rattle.srb_cli.specs.Outside.{outside};
 
 use crate::folder::read_folder;
 use run_serve::serve;
@@ -24,37 +24,7 @@ pub fn lsp<R: Threads + Wait + Sync, F: Files, S: Source + Send, K: Sink + Send,
     requires files { F.faults files.old < 2 ^ 64 - 1 }
     requires reads { S.faults source.old < 2 ^ 64 - 1 }
     requires writes { K.faults sink.old < 2 ^ 64 - 1 }
-    ensures ends { EndsServing dir.now result record {
-      left_before = S.left source.old;
-      left_after = S.left source.new;
-      held_before = K.held sink.old;
-      held_after = K.held sink.new;
-      reads_before = S.faults source.old;
-      reads_after = S.faults source.new;
-      writes_before = K.faults sink.old;
-      writes_after = K.faults sink.new;
-    } record {
-      told = F.told files.old;
-      failed_before = F.faults files.old;
-      failed_after = F.faults files.new;
-    } }
-    ensures recorded { RecordsServing dir.now result record {
-      left_before = S.left source.old;
-      left_after = S.left source.new;
-      held_before = K.held sink.old;
-      held_after = K.held sink.new;
-      reads_before = S.faults source.old;
-      reads_after = S.faults source.new;
-      writes_before = K.faults sink.old;
-      writes_after = K.faults sink.new;
-    } record {
-      told = F.told files.old;
-      failed_before = F.faults files.old;
-      failed_after = F.faults files.new;
-    } record {
-      told_before = T.told trace.old;
-      told_after = T.told trace.new;
-    } }
+    ensures { EndsServing dir.now result (outside (F.told files.old) (F.faults files.old) (F.faults files.new) (S.left source.old) (S.left source.new) (S.faults source.old) (S.faults source.new) (K.held sink.old) (K.held sink.new) (K.faults sink.old) (K.faults sink.new) (T.told trace.old) (T.told trace.new)) }
 {
     match read_folder(alloc, files, dir) {
         Ok(project) => serve(rt, alloc, project, source, sink, trace).cause,

@@ -5,16 +5,9 @@ use Rattle.srb_cli.proofs.serving.lsp.Goals as goal
 pub serve-requires-clause-ordered : goal.serve-requires-clause-ordered
 serve-requires-clause-ordered g c = λ _ _. project_in_order c.in-Ok.project c.in-Ok.ensures.folder.ordered
 
-pub returns-in-Ok-clause-ends : goal.returns-in-Ok-clause-ends
-returns-in-Ok-clause-ends g c =
-    inr (c.in-Ok.project, record { folder = c.in-Ok.ensures.folder; within = c.in-Ok.ensures.within; unfailed = c.in-Ok.ensures.unfailed }, c.serve.ensures.serves.0)
+pub returns-in-Ok : goal.returns-in-Ok
+returns-in-Ok g c =
+    inr (c.in-Ok.project, record { folder = c.in-Ok.ensures.folder; within = c.in-Ok.ensures.within; unfailed = c.in-Ok.ensures.unfailed }, c.serve.ensures.serves)
 
-pub returns-in-Ok-clause-recorded : goal.returns-in-Ok-clause-recorded
-returns-in-Ok-clause-recorded g c =
-    inr (c.in-Ok.project, record { folder = c.in-Ok.ensures.folder; within = c.in-Ok.ensures.within; unfailed = c.in-Ok.ensures.unfailed }, c.serve.ensures.serves.1)
-
-pub returns-in-Err-clause-ends : goal.returns-in-Err-clause-ends
-returns-in-Err-clause-ends g c = inl (record { unread = refl; unwritten = refl; reads = refl; writes = refl }, c.in-Err.ensures.unread)
-
-pub returns-in-Err-clause-recorded : goal.returns-in-Err-clause-recorded
-returns-in-Err-clause-recorded g c = inl ((record { unread = refl; unwritten = refl; reads = refl; writes = refl }, c.in-Err.ensures.unread), refl)
+pub returns-in-Err : goal.returns-in-Err
+returns-in-Err g c = inl ((record { unread = refl; unwritten = refl; reads = refl; writes = refl }, c.in-Err.ensures.unread), refl)
