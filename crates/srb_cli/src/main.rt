@@ -3,12 +3,16 @@
 
 mod checking;
 mod command;
+#[cfg(test)]
+mod command_tests;
 mod commands;
 mod folder;
 #[cfg(test)]
 mod folder_tests;
 pub mod laws;
 mod one_thread;
+#[cfg(test)]
+mod paced_tests;
 #[cfg(test)]
 mod record_tests;
 mod report;

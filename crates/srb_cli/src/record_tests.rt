@@ -33,6 +33,24 @@ fn recorded<R: Threads + Wait + Sync>(
     Ok(trace)
 }
 
+/// Whether the steps take these inputs alone, a message and then the end after `exit`, and end with an idle step. Between them the inbox may
+/// have been found empty.
+fn are_of_an_exit(steps: &[Step]) -> bool {
+    let mut messages = 0;
+    let mut ends = 0;
+    for step in steps {
+        match step {
+            Step::Take { inp: Inp::Msg(_) } if messages < 2 => messages += 1,
+            Step::Take {
+                inp: Inp::End(EndCause::Exit),
+            } if ends < 2 => ends += 1,
+            Step::Look | Step::Idle => {}
+            _ => return false,
+        }
+    }
+    messages == 1 && ends == 1 && matches!(steps.last(), Some(Step::Idle))
+}
+
 #[test]
 fn an_exit_at_once_is_recorded(rt: HostRuntime) -> Result<(), Fail> {
     let trace = recorded(
@@ -41,20 +59,7 @@ fn an_exit_at_once_is_recorded(rt: HostRuntime) -> Result<(), Fail> {
         &["lsp", "d"],
         &[r#"{"jsonrpc":"2.0","method":"exit"}"#],
     )?;
-    assert!(rt;
-        matches!(
-            trace.steps.as_slice(),
-            [
-                Step::Take { .. },
-                Step::Look,
-                Step::Idle,
-                Step::Take {
-                    inp: Inp::End(EndCause::Exit)
-                },
-                Step::Idle
-            ]
-        )
-    );
+    assert!(rt; are_of_an_exit(trace.steps.as_slice()));
     Ok(())
 }
 

@@ -1,6 +1,7 @@
 ghost use Rattle.std.specs.Prelude.{◌≡◌, IfOk};
 
 use crate::commands::run;
+use crate::paced_tests::is_served_in_turns;
 use run_watch::NoTrace;
 use srb_io::{Files, MemFiles, MemSink, MemSource, Sink, Source};
 use std::alloc::{AllocError, Global};
@@ -136,6 +137,27 @@ fn a_session_on_an_empty_folder(rt: HostRuntime) -> Result<(), Fail> {
     Ok(())
 }
 
+/// A client that reads no list before it gave `shutdown`: messages are read while a list is written.
+#[test]
+fn messages_are_read_while_a_list_is_written(rt: HostRuntime) -> Result<(), Fail> {
+    let bodies = [(INITIALIZE, 0), (OPEN, 0), (SHUTDOWN, 0), (EXIT, 0)];
+    let written = [INITIALIZED, LIST, NULL];
+    assert!(rt; is_served_in_turns(&rt, rt.alloc(), &[], &bodies, 3, &written, 0)?);
+    Ok(())
+}
+
+/// A client that opens a file only once a list of another was written.
+#[test]
+fn a_file_is_opened_once_a_list_was_written(rt: HostRuntime) -> Result<(), Fail> {
+    let files = [("b.rb", "# typed: true\nT.reveal_type(nil)\n")];
+    let first =
+        r#"{"jsonrpc":"2.0","method":"textDocument/publishDiagnostics","params":{"diagnostics":[{"code":7014,"message":"type is NilClass","range":{"end":{"character":18,"line":1},"start":{"character":0,"line":1}},"severity":1,"source":"srb"}],"epoch":0,"uri":"file:///p/b.rb"}}"#;
+    let bodies = [(INITIALIZE, 0), (OPEN, 2), (SHUTDOWN, 2), (EXIT, 2)];
+    let written = [INITIALIZED, first, LIST, NULL];
+    assert!(rt; is_served_in_turns(&rt, rt.alloc(), &files, &bodies, 0, &written, 0)?);
+    Ok(())
+}
+
 /// What is read, what is written, and the status.
 const ROWS: [(&[&str], &[&str], u8); 8] = [
     // before `initialize` and after `shutdown`
@@ -215,15 +237,18 @@ fn sessions_of_other_forms(rt: HostRuntime) -> Result<(), Fail> {
 fn a_blank_in_a_path(rt: HostRuntime) -> Result<(), Fail> {
     let files = [("a b.rb", "# typed: true\nT.reveal_type(nil)\n")];
     let bodies = [
-        INITIALIZE,
-        r#"{"jsonrpc":"2.0","method":"textDocument/didOpen","params":{"textDocument":{"uri":"file:///p/a%20b.rb","languageId":"ruby","version":1,"text":""}}}"#,
+        (INITIALIZE, 0),
+        (
+            r#"{"jsonrpc":"2.0","method":"textDocument/didOpen","params":{"textDocument":{"uri":"file:///p/a%20b.rb","languageId":"ruby","version":1,"text":""}}}"#,
+            2,
+        ),
     ];
     let written = [
         INITIALIZED,
         r#"{"jsonrpc":"2.0","method":"textDocument/publishDiagnostics","params":{"diagnostics":[{"code":7014,"message":"type is NilClass","range":{"end":{"character":18,"line":1},"start":{"character":0,"line":1}},"severity":1,"source":"srb"}],"epoch":0,"uri":"file:///p/a%20b.rb"}}"#,
         r#"{"jsonrpc":"2.0","method":"textDocument/publishDiagnostics","params":{"diagnostics":[],"epoch":1,"uri":"file:///p/a%20b.rb"}}"#,
     ];
-    assert!(rt; is_served(&rt, rt.alloc(), &files, &bodies, &written, 1)?);
+    assert!(rt; is_served_in_turns(&rt, rt.alloc(), &files, &bodies, 0, &written, 1)?);
     Ok(())
 }
 
@@ -250,12 +275,21 @@ const LOST_IN_B_3: &str =
 #[test]
 fn a_class_that_another_file_names_is_taken_out(rt: HostRuntime) -> Result<(), Fail> {
     let bodies = [
-        INITIALIZE,
-        r#"{"jsonrpc":"2.0","method":"textDocument/didOpen","params":{"textDocument":{"uri":"file:///p/a.rb","languageId":"ruby","version":1,"text":"class A\nend\n"}}}"#,
-        r#"{"jsonrpc":"2.0","method":"textDocument/didOpen","params":{"textDocument":{"uri":"file:///p/b.rb","languageId":"ruby","version":1,"text":"A\n"}}}"#,
-        r#"{"jsonrpc":"2.0","method":"textDocument/didChange","params":{"textDocument":{"uri":"file:///p/a.rb","version":2},"contentChanges":[{"text":""}]}}"#,
-        SHUTDOWN,
-        EXIT,
+        (INITIALIZE, 0),
+        (
+            r#"{"jsonrpc":"2.0","method":"textDocument/didOpen","params":{"textDocument":{"uri":"file:///p/a.rb","languageId":"ruby","version":1,"text":"class A\nend\n"}}}"#,
+            1,
+        ),
+        (
+            r#"{"jsonrpc":"2.0","method":"textDocument/didOpen","params":{"textDocument":{"uri":"file:///p/b.rb","languageId":"ruby","version":1,"text":"A\n"}}}"#,
+            2,
+        ),
+        (
+            r#"{"jsonrpc":"2.0","method":"textDocument/didChange","params":{"textDocument":{"uri":"file:///p/a.rb","version":2},"contentChanges":[{"text":""}]}}"#,
+            3,
+        ),
+        (SHUTDOWN, 5),
+        (EXIT, 6),
     ];
     let written = [
         INITIALIZED,
@@ -265,7 +299,7 @@ fn a_class_that_another_file_names_is_taken_out(rt: HostRuntime) -> Result<(), F
         LOST_IN_B_3,
         NULL,
     ];
-    assert!(rt; is_served(&rt, rt.alloc(), &[], &bodies, &written, 0)?);
+    assert!(rt; is_served_in_turns(&rt, rt.alloc(), &[], &bodies, 0, &written, 0)?);
     Ok(())
 }
 
@@ -278,11 +312,17 @@ fn a_class_that_another_file_names_comes_back(rt: HostRuntime) -> Result<(), Fai
         ("c.rb", "class C\nend\n"),
     ];
     let bodies = [
-        INITIALIZE,
-        r#"{"jsonrpc":"2.0","method":"textDocument/didOpen","params":{"textDocument":{"uri":"file:///p/a.rb","languageId":"ruby","version":1,"text":""}}}"#,
-        r#"{"jsonrpc":"2.0","method":"textDocument/didClose","params":{"textDocument":{"uri":"file:///p/a.rb"}}}"#,
-        SHUTDOWN,
-        EXIT,
+        (INITIALIZE, 0),
+        (
+            r#"{"jsonrpc":"2.0","method":"textDocument/didOpen","params":{"textDocument":{"uri":"file:///p/a.rb","languageId":"ruby","version":1,"text":""}}}"#,
+            1,
+        ),
+        (
+            r#"{"jsonrpc":"2.0","method":"textDocument/didClose","params":{"textDocument":{"uri":"file:///p/a.rb"}}}"#,
+            3,
+        ),
+        (SHUTDOWN, 5),
+        (EXIT, 6),
     ];
     let written = [
         INITIALIZED,
@@ -292,7 +332,7 @@ fn a_class_that_another_file_names_comes_back(rt: HostRuntime) -> Result<(), Fai
         NONE_IN_B_2,
         NULL,
     ];
-    assert!(rt; is_served(&rt, rt.alloc(), &files, &bodies, &written, 0)?);
+    assert!(rt; is_served_in_turns(&rt, rt.alloc(), &files, &bodies, 0, &written, 0)?);
     Ok(())
 }
 
@@ -300,11 +340,17 @@ fn a_class_that_another_file_names_comes_back(rt: HostRuntime) -> Result<(), Fai
 #[test]
 fn changes_of_ranges(rt: HostRuntime) -> Result<(), Fail> {
     let bodies = [
-        INITIALIZE,
-        r##"{"jsonrpc":"2.0","method":"textDocument/didOpen","params":{"textDocument":{"uri":"file:///p/a.rb","languageId":"ruby","version":1,"text":"# typed: true\n# 😀😀\nx = '😀' )\n"}}}"##,
-        r#"{"jsonrpc":"2.0","method":"textDocument/didChange","params":{"textDocument":{"uri":"file:///p/a.rb","version":2},"contentChanges":[{"range":{"start":{"line":1,"character":3},"end":{"line":1,"character":6}},"text":""},{"range":{"start":{"line":1,"character":0},"end":{"line":2,"character":10}},"text":"T.reveal_type(1)"}]}}"#,
-        SHUTDOWN,
-        EXIT,
+        (INITIALIZE, 0),
+        (
+            r##"{"jsonrpc":"2.0","method":"textDocument/didOpen","params":{"textDocument":{"uri":"file:///p/a.rb","languageId":"ruby","version":1,"text":"# typed: true\n# 😀😀\nx = '😀' )\n"}}}"##,
+            1,
+        ),
+        (
+            r#"{"jsonrpc":"2.0","method":"textDocument/didChange","params":{"textDocument":{"uri":"file:///p/a.rb","version":2},"contentChanges":[{"range":{"start":{"line":1,"character":3},"end":{"line":1,"character":6}},"text":""},{"range":{"start":{"line":1,"character":0},"end":{"line":2,"character":10}},"text":"T.reveal_type(1)"}]}}"#,
+            2,
+        ),
+        (SHUTDOWN, 3),
+        (EXIT, 4),
     ];
     let written = [
         INITIALIZED,
@@ -312,7 +358,7 @@ fn changes_of_ranges(rt: HostRuntime) -> Result<(), Fail> {
         r#"{"jsonrpc":"2.0","method":"textDocument/publishDiagnostics","params":{"diagnostics":[{"code":7014,"message":"type is Integer","range":{"end":{"character":16,"line":1},"start":{"character":0,"line":1}},"severity":1,"source":"srb"}],"epoch":2,"uri":"file:///p/a.rb"}}"#,
         NULL,
     ];
-    assert!(rt; is_served(&rt, rt.alloc(), &[], &bodies, &written, 0)?);
+    assert!(rt; is_served_in_turns(&rt, rt.alloc(), &[], &bodies, 0, &written, 0)?);
     Ok(())
 }
 
