@@ -18,12 +18,14 @@ use Rattle.lsp_docs.specs.Projects.{Project, paths_of, total_bytes}
 use Rattle.run_watch.specs.declared.end_cause.EndCause.TheVariants as end
 use Rattle.run_serve.specs.Course.{Course, NoReadFailed, NoWriteFailed}
 use Rattle.run_serve.specs.Projects.{IsWithin}
+use Rattle.run_serve.specs.Recorded.{Tracing}
 use Rattle.srb_cli.specs.Folders.{IsTold, AreTold, IsFolder, IsPastFiles, IsPastBytes, IsUnread}
 use Rattle.run_core.specs.Inputs.{messages_of, has_exit, end_of, end_after, GoesOn}
 use Rattle.run_serve.specs.Causes.{cause_of}
 use Rattle.run_serve.specs.Served.{ServesWhole, Serves, has_failed, is_shut}
 use Rattle.srb_cli.specs.Ends.{Checks, EndsText}
-use Rattle.srb_cli.specs.Laws.{IsChecked, IsServed, TextsAreChecked, FoldersAreChecked, SessionsAreServed}
+use Rattle.srb_cli.specs.Generating.{EndsGenerating}
+use Rattle.srb_cli.specs.Laws.{IsChecked, IsServed, IsGenerating, TextsAreChecked, FoldersAreChecked, SessionsAreServed, SessionsAreGenerated}
 use Rattle.srb_text.specs.Limits.{MOST_BYTES}
 use Rattle.srb_cli.proofs.Folders.{length-paths_of, total_bytes-append}
 use Rattle.srb_cli.proofs.Lasting.{end_lasts}
@@ -259,3 +261,21 @@ text_checked (TooMany files) c bytes told small reads writes e = absurd e
 
 pub texts_are_checked : TextsAreChecked
 texts_are_checked cause o ends bytes told small reads writes = text_checked cause o.course bytes told small reads writes ends.0
+
+-- ---- the end of `gen`
+
+generated : (cause : Cause) (n : ℕ) (c : Course) (t : Tracing) → NoWriteFailed c → EndsGenerating n cause c t → IsGenerating cause
+generated Done n c t writes e = tt
+generated NoMemory n c t writes e = tt
+generated WriteFault n c t writes e = absurd (omega (arith, writes, e.2))
+generated Errors n c t writes e = absurd e
+generated NoShutdown n c t writes e = absurd e
+generated Usage n c t writes e = absurd e
+generated ReadFault n c t writes e = absurd e
+generated (Broken at) n c t writes e = absurd e
+generated (TooLong size) n c t writes e = absurd e
+generated (TooMany files) n c t writes e = absurd e
+generated (TooBig path) n c t writes e = absurd e
+
+pub sessions_are_generated : SessionsAreGenerated
+sessions_are_generated cause n o ends writes = generated cause n o.course o.tracing writes ends.0

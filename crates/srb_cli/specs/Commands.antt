@@ -10,6 +10,8 @@ pub data Command : Type 0 where
   Check : List ℕ → Command
   -- serve a session over the files below this folder with so many workers
   Serve : List ℕ → ℕ → Command
+  -- serve the session that is generated for so many files, and write its summary
+  Generate : ℕ → Command
 
 -- a word names a folder: it isn't empty and doesn't begin with `-`
 abbrev pub names_folder : List ℕ → Bool
@@ -99,13 +101,26 @@ abbrev pub reading : List (List ℕ) → Option Command
 reading [] = Some Text
 reading words = None
 
+-- the most files of a generated project
+abbrev pub MOST_GENERATED : ℕ
+MOST_GENERATED = 1000
+
+-- the words after `gen`: the number of files, at least one
+abbrev pub generating : List (List ℕ) → Option Command
+generating (word ∷ []) = elim (number_in word) [
+  | None ↦ None
+  | Some n ↦ if nat_le 1 n && nat_le n MOST_GENERATED then Some (Generate n) else None
+]
+generating words = None
+
 -- the command that these words are
 abbrev pub command_of : List (List ℕ) → Option Command
 command_of [] = None
 command_of (word ∷ words) =
     if bytes_eq word (codes "text") then reading words
     else (if bytes_eq word (codes "tc") then checking words
-    else (if bytes_eq word (codes "lsp") then serving words else None))
+    else (if bytes_eq word (codes "lsp") then serving words
+    else (if bytes_eq word (codes "gen") then generating words else None)))
 
 -- whether it is a command that checks once and ends
 abbrev pub checks_once : Option Command → Bool
@@ -113,6 +128,7 @@ checks_once None = false
 checks_once (Some Text) = true
 checks_once (Some (Check dir)) = true
 checks_once (Some (Serve dir workers)) = false
+checks_once (Some (Generate n)) = false
 
 -- what is written where the words are no command
 abbrev pub usage_line : List ℕ

@@ -10,7 +10,8 @@ use Rattle.srb_check.specs.Reports.{report_of}
 use Rattle.lsp_docs.specs.Projects.{Project}
 use Rattle.srb_text.specs.Limits.{MOST_BYTES}
 use Rattle.srb_cli.specs.Commands.{Command, usage_line}
-use Rattle.srb_cli.specs.Commands.Command.{Text, Check, Serve}
+use Rattle.srb_cli.specs.Commands.Command.{Text, Check, Serve, Generate}
+use Rattle.srb_cli.specs.Generating.{EndsGenerating}
 use Rattle.srb_cli.specs.Outside.{Outside}
 use Rattle.run_serve.specs.Course.{Course, NoReadFailed, NoWriteFailed, AReadFailed, AWriteFailed, Writes, WritesPart, ReadsNothing, IsUntouched}
 use Rattle.run_serve.specs.Projects.{IsWithin}
@@ -107,9 +108,11 @@ EndsServing dir cause o =
 
 -- ---- any words
 
--- How a call ends with words that are this command, or none. Only `tc` and `lsp` call on the files, and only `lsp` makes steps.
+-- How a call ends with words that are this command, or none. Only `tc` and `lsp` call on the files, and only `lsp` and `gen` make steps.
 abbrev pub Ends : Option Command → Cause → Outside → Type 0
 Ends None cause o = EndsUsage cause o.course × NoFileFailed o.listing × RecordsNothing o.tracing
 Ends (Some Text) cause o = EndsText cause o.course × NoFileFailed o.listing × RecordsNothing o.tracing
 Ends (Some (Check dir)) cause o = EndsChecking dir cause o.course o.listing × RecordsNothing o.tracing
 Ends (Some (Serve dir workers)) cause o = EndsServing dir cause o
+Ends (Some (Generate n)) cause o =
+    EndsGenerating n cause o.course o.tracing × ReadsNothing o.course × NoFileFailed o.listing

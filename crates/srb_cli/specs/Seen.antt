@@ -7,3 +7,4 @@ abbrev pub seen : Asked → Command
 seen asked.Text = Command.Text
 seen (asked.Check dir) = Command.Check dir.now
 seen (asked.Serve dir workers) = Command.Serve dir.now workers
+seen (asked.Generate count) = Command.Generate count

@@ -17,6 +17,9 @@ const USAGE_LINE: &str = "usage: srb text | srb tc DIR | srb lsp DIR [--workers 
 /// The most workers of a session.
 const MOST_WORKERS: u16 = 16;
 
+/// The most files of a generated project.
+const MOST_GENERATED: u16 = 1000;
+
 /// The number of workers where none is given.
 const USUAL_WORKERS: u8 = 2;
 
@@ -29,6 +32,8 @@ pub enum Command<'a> {
     Check(&'a str),
     /// Serve a session over the files below a folder with so many workers.
     Serve(&'a str, u8),
+    /// Serve the session that is generated for so many files, and write its summary.
+    Generate(u16),
 }
 
 /// Whether the word names a folder: it isn't empty and doesn't begin with `-`.
@@ -155,6 +160,19 @@ fn checking(words: &[String]) -> Option<Command<'_>>
     }
 }
 
+/// What the words after `gen` ask for: the number of files.
+fn generating(words: &[String]) -> Option<Command<'_>>
+    ensures { option_map seen result ≡ spec.generating (map string_bytes words.now) }
+{
+    let [word] = words else {
+        return None;
+    };
+    match number_in(word.as_str().as_bytes()) {
+        Some(number) if 1 <= number && number <= MOST_GENERATED => Some(Command::Generate(number)),
+        _ => None,
+    }
+}
+
 /// The command that these words are, if they are one.
 pub fn command_of(words: &[String]) -> Option<Command<'_>>
     ensures { option_map seen result ≡ spec.command_of (map string_bytes words.now) }
@@ -172,6 +190,7 @@ pub fn command_of(words: &[String]) -> Option<Command<'_>>
         }
         "tc" => checking(words),
         "lsp" => serving(words),
+        "gen" => generating(words),
         _ => None,
     }
 }

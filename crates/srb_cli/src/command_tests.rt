@@ -3,7 +3,7 @@ use std::alloc::{AllocError, Global};
 use std::test::Fail;
 
 /// Words, each line of them with blanks between, and what they ask for: `-` for nothing.
-const WORDS: [(&str, &str); 42] = [
+const WORDS: [(&str, &str); 50] = [
     ("text", "text"),
     ("text x", "-"),
     ("Text", "-"),
@@ -41,6 +41,14 @@ const WORDS: [(&str, &str); 42] = [
     ("lsp --workers=1 --workers=1 app", "-"),
     ("lsp app -- --workers 1", "-"),
     ("lsp -- app", "-"),
+    ("gen 1", "gen 1"),
+    ("gen 1000", "gen 1000"),
+    ("gen 0300", "gen 300"),
+    ("gen 0", "-"),
+    ("gen 1001", "-"),
+    ("gen", "-"),
+    ("gen x", "-"),
+    ("gen 1 2", "-"),
     ("help", "-"),
     ("--help", "-"),
     ("-h", "-"),
@@ -63,6 +71,7 @@ fn asked(alloc: Global, words: &[String]) -> Result<String, AllocError> {
         Some(Command::Text) => String::from_str(alloc, "text"),
         Some(Command::Check(dir)) => format!(in alloc; "tc {dir}"),
         Some(Command::Serve(dir, workers)) => format!(in alloc; "lsp {dir} {workers}"),
+        Some(Command::Generate(count)) => format!(in alloc; "gen {count}"),
         None => String::from_str(alloc, "-"),
     }
 }

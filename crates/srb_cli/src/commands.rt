@@ -5,6 +5,7 @@ ghost use Rattle.srb_cli.specs.Ends.{Ends};
 ghost use Rattle.srb_cli.specs.Outside.{outside};
 
 use crate::command::{Command, command_of, usage};
+use crate::generating::generate;
 use crate::one_thread::once;
 use crate::serving::lsp;
 use run_watch::Trace;
@@ -36,6 +37,7 @@ pub fn run<R: Threads + Wait + Sync, F: Files, S: Source + Send, K: Sink + Send,
         Some(Command::Serve(dir, _workers)) => {
             Ended::new(lsp(rt, alloc, dir, files, source, sink, trace))
         }
+        Some(Command::Generate(count)) => Ended::new(generate(rt, alloc, count, sink, trace)),
         None => usage(sink),
     }
 }

@@ -9,6 +9,9 @@ mod commands;
 mod folder;
 #[cfg(test)]
 mod folder_tests;
+mod generating;
+#[cfg(test)]
+mod generating_tests;
 pub mod laws;
 mod one_thread;
 #[cfg(test)]

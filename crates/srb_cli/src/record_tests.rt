@@ -1,19 +1,25 @@
+ghost use Rattle.std.specs.Prelude.{◌==◌, None};
+
 use crate::commands::run;
 use crate::session_tests::{files_of, frames_of, sink_of, source_of};
-use run_watch::{EndCause, Inp, MemTrace, Step};
+use run_watch::{EndCause, Inp, Keep, MemTrace, Step, Trace, Watcher, Watchers};
+use srb_terms::NoMemory;
 use std::alloc::{AllocError, Global};
-use std::sync::Wait;
+use std::sync::atomic::{AtomicU64, Ordering};
+use std::sync::{Arc, Wait};
 use std::test::Fail;
 use std::thread::Threads;
 
-/// What a call with these words records over an empty folder, where it reads these messages.
-fn recorded<R: Threads + Wait + Sync>(
+const EXIT: &str = r#"{"jsonrpc":"2.0","method":"exit"}"#;
+
+/// A call with these words over an empty folder, which reads these messages and tells its steps to the trace.
+fn told<R: Threads + Wait + Sync, T: Trace + Send>(
     rt: &R,
     alloc: Global,
     words: &[&str],
     bodies: &[&str],
-) -> Result<MemTrace, AllocError> {
-    let mut trace = MemTrace::new(alloc);
+    trace: &mut T,
+) -> Result<(), AllocError> {
     let mut said = Vec::new(alloc);
     for word in words {
         said.push(String::from_str(alloc, word)?)?;
@@ -28,8 +34,20 @@ fn recorded<R: Threads + Wait + Sync>(
         &mut files,
         &mut source,
         &mut sink,
-        &mut trace,
+        trace,
     );
+    Ok(())
+}
+
+/// What such a call records.
+fn recorded<R: Threads + Wait + Sync>(
+    rt: &R,
+    alloc: Global,
+    words: &[&str],
+    bodies: &[&str],
+) -> Result<MemTrace, AllocError> {
+    let mut trace = MemTrace::new(alloc);
+    told(rt, alloc, words, bodies, &mut trace)?;
     Ok(trace)
 }
 
@@ -53,12 +71,7 @@ fn are_of_an_exit(steps: &[Step]) -> bool {
 
 #[test]
 fn an_exit_at_once_is_recorded(rt: HostRuntime) -> Result<(), Fail> {
-    let trace = recorded(
-        &rt,
-        rt.alloc(),
-        &["lsp", "d"],
-        &[r#"{"jsonrpc":"2.0","method":"exit"}"#],
-    )?;
+    let trace = recorded(&rt, rt.alloc(), &["lsp", "d"], &[EXIT])?;
     assert!(rt; are_of_an_exit(trace.steps.as_slice()));
     Ok(())
 }
@@ -67,5 +80,97 @@ fn an_exit_at_once_is_recorded(rt: HostRuntime) -> Result<(), Fail> {
 fn a_check_records_nothing(rt: HostRuntime) -> Result<(), Fail> {
     let trace = recorded(&rt, rt.alloc(), &["text"], &[])?;
     assert!(rt; trace.steps.is_empty());
+    Ok(())
+}
+
+/// A watcher that sums up the steps that it is told, where others see the sum, and leaves after some.
+#[derive(Drop)]
+struct Summing {
+    sum: Arc<AtomicU64>,
+    stays_for: u64,
+}
+
+impl Watcher for Summing {
+    ghost seen = { λ _. None };
+
+    ghost leaves = { λ w _. w.stays_for == 0 };
+
+    fn saw(&mut self, s: &Step) -> Keep {
+        let sum = self.sum.load(Ordering::SeqCst);
+        self.sum.store(with_step(sum, s), Ordering::SeqCst);
+        if self.stays_for == 0 {
+            return Keep::Leave;
+        }
+        self.stays_for -= 1;
+        Keep::Stay
+    }
+}
+
+/// The sum with one more step, which tells its place and its kind.
+fn with_step(sum: u64, step: &Step) -> u64 {
+    let kind = match step {
+        Step::Take { .. } => 1,
+        Step::Look => 2,
+        Step::Build => 3,
+        Step::Work { .. } => 4,
+        Step::Dropped { .. } => 5,
+        Step::Idle => 6,
+    };
+    sum.wrapping_mul(31).wrapping_add(kind)
+}
+
+/// The sum of these steps.
+fn sum_of(steps: &[Step]) -> u64 {
+    let mut sum = 0;
+    for step in steps {
+        sum = with_step(sum, step);
+    }
+    sum
+}
+
+/// A trace that holds the steps and tells them to its watchers.
+#[derive(Drop)]
+struct Both {
+    held: MemTrace,
+    watchers: Watchers,
+}
+
+impl Trace for Both {
+    ghost told = { λ _. None };
+
+    fn step(&mut self, s: &Step) -> Result<(), NoMemory> {
+        self.held.step(s)?;
+        self.watchers.step(s)
+    }
+}
+
+/// Adds a box with a watcher that leaves after so many steps. Answers where its sum is seen.
+fn watched_by(
+    alloc: Global,
+    watchers: &mut Watchers,
+    stays_for: u64,
+) -> Result<Arc<AtomicU64>, AllocError> {
+    let seen = Arc::new(alloc, AtomicU64::new(0))?;
+    let sum = Arc::try_clone(&seen)?;
+    let watcher = Box::new(alloc, Summing { sum, stays_for })?;
+    watchers.boxes.push(watcher)?;
+    Ok(seen)
+}
+
+/// Of two boxed watchers the first is told all steps of the session, the second the first three.
+#[test]
+fn boxed_watchers_are_told_the_steps(rt: HostRuntime) -> Result<(), Fail> {
+    let alloc = rt.alloc();
+    let boxes = Vec::new(alloc);
+    let mut watchers = Watchers { boxes };
+    let staying = watched_by(alloc, &mut watchers, 1000)?;
+    let leaving = watched_by(alloc, &mut watchers, 2)?;
+    let held = MemTrace::new(alloc);
+    let mut trace = Both { held, watchers };
+    told(&rt, alloc, &["lsp", "d"], &[EXIT], &mut trace)?;
+    let steps = trace.held.steps.as_slice();
+    assert!(rt; steps.len() >= 3);
+    assert_eq!(rt; staying.load(Ordering::SeqCst), sum_of(steps));
+    assert_eq!(rt; leaving.load(Ordering::SeqCst), sum_of(&steps[..3]));
     Ok(())
 }

@@ -1,0 +1,10 @@
+pub mod Objects
+pub mod Paths
+pub mod Projects
+pub mod Sessions
+pub mod Lengths
+pub mod Said
+pub mod Shut
+pub mod Lists
+pub mod FreshLists
+pub mod Taken

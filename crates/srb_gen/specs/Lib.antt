@@ -1,0 +1,4 @@
+pub mod Texts
+pub mod Messages
+pub mod Generated
+pub mod Tallies
