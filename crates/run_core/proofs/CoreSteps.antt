@@ -1,5 +1,5 @@
 -- What the calls of a core leave, as steps of the machine.
-use Rattle.std.proofs.Common.{◌≡◌, ℕ, suc, ◌+◌, ◌<◌, Bool, true, false, cond, not, ◌&&◌, ◌||◌, List, [], ◌∷◌, length, refl, inl, inr, ⊎_elim, sym, ap, ◌∙◌, subst, arith}
+use Rattle.std.proofs.Common.{◌≡◌, ℕ, suc, ◌+◌, ◌<◌, Bool, true, false, cond, not, ◌&&◌, ◌||◌, List, [], ◌∷◌, length, map, refl, inl, inr, ⊎_elim, sym, ap, ◌∙◌, subst, arith}
 use Rattle.std.specs.Prelude.{◌≢◌, Option, Some, None, Result, Ok, bytes_eq, is_some, unwrap_or, IsNone}
 use Rattle.std.specs.List.{slice_get}
 use Rattle.std.specs.Option.{option_map, option_copied}
@@ -16,16 +16,18 @@ use Rattle.srb_check.specs.Jobs.{IsJobOf, IsJobWith, Known}
 use Rattle.srb_check.specs.Symbols.{project_facts}
 use Rattle.srb_check.proofs.FactLists.{same_facts-decides}
 use Rattle.lsp_msg.specs.declared.id.Id.{Id}
+use Rattle.lsp_msg.specs.declared.out.Out.{Out}
+use Rattle.lsp_msg.specs.declared.out.Out.TheVariants as out
 use Rattle.lsp_msg.specs.declared.msg.Msg.{Msg as Message}
 use Rattle.lsp_msg.specs.declared.msg.Msg.TheVariants as msg
 use Rattle.run_watch.specs.declared.end_cause.EndCause.{EndCause}
 use Rattle.run_watch.specs.declared.inp.Inp.TheVariants.{Msg}
-use Rattle.run_watch.specs.declared.step.Step.TheVariants.{Take, Build}
+use Rattle.run_watch.specs.declared.step.Step.TheVariants.{Take, Build, Work}
 use Rattle.lsp_docs.specs.declared.applied.Applied.{Applied}
 use Rattle.lsp_docs.specs.declared.doc_end.DocEnd.{DocEnd}
 use Rattle.lsp_docs.specs.Paths.{Path, Bytes, has, is_before, with_path, with_paths, without_path}
 use Rattle.lsp_docs.specs.Projects.{Project, with_bytes, without_file, paths_of}
-use Rattle.lsp_docs.specs.Documents.{Agreed, Documents, Deed, after_deed, applied, no_documents, told_of, IsAccepted}
+use Rattle.lsp_docs.specs.Documents.{Agreed, Documents, Deed, after_deed, applied, no_documents, placed, told_of, uri_of, IsAccepted}
 use Rattle.lsp_docs.specs.Documents.Deed.{Edits, Saves}
 use Rattle.lsp_docs.specs.Uris.{is_empty}
 use Rattle.lsp_docs.proofs.PathLemmas.{same_path, other_path, bytes_at-with_bytes, length-without_had}
@@ -33,8 +35,9 @@ use Rattle.run_core.specs.declared.row.Row.{Row}
 use Rattle.run_core.specs.declared.mark.Mark.TheVariants.{Present, Todo, Owed, Edited}
 use Rattle.run_core.specs.Rows.{marked, first_marked, lists_shown, IsBeforeRows, IsOrdered, OwedAreAsked, new_row, edited_row, after_edited, after_built, worked_row, after_worked, next_index, opening_rows}
 use Rattle.run_core.specs.Sessions.{Phase, Waiting, Serving, Closing, Session, told, told_by, method_of, when_serving, told_in, answer_of}
-use Rattle.run_core.specs.Machine.{State, IsShown, opening, project_of, looked, after_message, shown_of}
-use Rattle.run_core.specs.Cores.{Account, Makes, IsCore, IsDue, IsEdited, IsLeastOwn, IsNextOwn, Lands, after_edit_at, checked_language, has_own, is_waiting, keeps_at, landed_by, state_of}
+use Rattle.run_core.specs.declared.landed.Landed.{Landed}
+use Rattle.run_core.specs.Machine.{State, IsShown, opening, project_of, looked, may_work, after_message, shown_of}
+use Rattle.run_core.specs.Cores.{Account, Makes, IsCore, IsDue, IsEdited, IsWholeCore, WorksIn, IsLeastOwn, IsNextOwn, Lands, after_edit_at, checked_language, has_own, is_waiting, keeps_at, landed_by, state_of}
 use Rattle.run_core.proofs.KeptFacts.{here, keeps-at, kept_facts}
 use Rattle.run_core.proofs.NextFile.{has-at, lookup-at, marked-sorted, may_parts, next_index-path, next_path-is, next_path-some, owed_asked}
 use Rattle.run_core.proofs.RowIndexes.{HasRow-at}
@@ -347,7 +350,7 @@ not_true true e = absurd (grind (arith, e))
 not_true false e = refl
 
 -- where some file is to be worked on, `initialize` is accepted
-begun_asked : (phase : Phase) (stale : Bool) (todo : List Path) → (is_waiting phase ≡ true → (stale ≡ false) × (todo ≡ [])) → not (is_empty todo) ≡ true
+pub begun_asked : (phase : Phase) (stale : Bool) (todo : List Path) → (is_waiting phase ≡ true → (stale ≡ false) × (todo ≡ [])) → not (is_empty todo) ≡ true
     → is_waiting phase ≡ false
 begun_asked phase stale todo waiting some = by (is_waiting phase) refl
   where
@@ -459,45 +462,56 @@ worked_fewer d phase rows left epoch stale seen owing ended row list core order 
     let size = ap length todo in
     omega (arith, fewer, size)
 
+-- the message of a file that was worked on, if it is to be written
+abbrev pub out_for : Documents → Path → ℕ → List Diag → Bool → Option Out
+out_for d f epoch list true = Some (out.List (uri_of d.agreed f) epoch (map (placed d.agreed (unwrap_or (bytes_at f d.project) [])) list))
+out_for d f epoch list false = None
+
 -- the rows and the mark after a file was worked on make the machine's step
-pub worked_lands : {job : Known} (d : Documents) (phase : Phase) (rows left : List Row) (epoch : ℕ) (stale seen : Bool) (owing : Option Id) (ended : Option EndCause) (i : ℕ) (row : Row) (list : List Diag) (shown : Bool)
-    → IsCore phase d stale rows job → IsOrdered rows → has_own (state_of d phase rows epoch stale seen owing ended) ≡ true
-    → i ≡ next_index rows → slice_get rows i ≡ Some row → list ≡ fresh d.project row.path
+pub worked_makes : (d : Documents) (phase : Phase) (rows left : List Row) (epoch : ℕ) (stale seen : Bool) (owing : Option Id) (ended : Option EndCause) (i : ℕ) (row : Row) (list : List Diag) (shown : Bool)
+    → IsOrdered rows → slice_get rows i ≡ Some row → may_work (state_of d phase rows epoch stale seen owing ended) row.path ≡ true → list ≡ fresh d.project row.path
     → IsDue row list shown → left ≡ after_worked row.path (cond shown (Some list) None) rows
-    → Lands (state_of d phase rows epoch stale seen owing ended) (state_of d phase left epoch stale false owing ended) (landed_by d row.path epoch list shown)
-worked_lands d phase rows left epoch stale seen owing ended i row list shown core order own index is found due left_is =
+    → Makes (state_of d phase rows epoch stale seen owing ended) (state_of d phase left epoch stale false owing ended) (Work row.path epoch list shown) (out_for d row.path epoch list shown)
+worked_makes d phase rows left epoch stale seen owing ended i row list shown order is may found due left_is =
     by shown (shown_rightly (state_of d phase rows epoch stale seen owing ended) row list shown (has-at Owed rows i row order is)
     (ap (λ (o : Option (List Diag)). unwrap_or o []) (lookup-at rows i row order is)) due) left_is
+  where
+    by : (b : Bool) → IsShown (state_of d phase rows epoch stale seen owing ended) row.path list b → left ≡ after_worked row.path (cond b (Some list) None) rows
+        → Makes (state_of d phase rows epoch stale seen owing ended) (state_of d phase left epoch stale false owing ended) (Work row.path epoch list b) (out_for d row.path epoch list b)
+    by true rightly left_is = record {
+      permitted = record { ready = may; now = refl; fresh = found; rightly = rightly };
+      made = worked_state d phase epoch stale owing ended
+          (ap (marked Todo) left_is ∙ marked-worked-without Todo row.path (Some list) rows (λ r. refl) order)
+          (ap (marked Owed) left_is ∙ marked-worked-without Owed row.path (Some list) rows (λ r. refl) order)
+          (ap (marked Edited) left_is ∙ marked-worked-same Edited row.path (Some list) rows (λ r. refl))
+          (ap lists_shown left_is ∙ lists-worked-some row.path list rows order (HasRow-at rows i row order is));
+      answered = refl;
+    }
+    by false rightly left_is = record {
+      permitted = record { ready = may; now = refl; fresh = found; rightly = rightly };
+      made = worked_state d phase epoch stale owing ended
+          (ap (marked Todo) left_is ∙ marked-worked-without Todo row.path None rows (λ r. refl) order)
+          (ap (marked Owed) left_is ∙ marked-worked-without Owed row.path None rows (λ r. refl) order)
+          (ap (marked Edited) left_is ∙ marked-worked-same Edited row.path None rows (λ r. refl))
+          (ap lists_shown left_is ∙ lists-worked-none row.path rows);
+      answered = refl;
+    }
+
+pub worked_lands : {job : Known} (d : Documents) (phase : Phase) (rows left : List Row) (epoch : ℕ) (stale seen : Bool) (owing : Option Id) (ended : Option EndCause) (i : ℕ) (row : Row) (list : List Diag) (landed : Landed)
+    → IsCore phase d stale rows job → IsOrdered rows → has_own (state_of d phase rows epoch stale seen owing ended) ≡ true
+    → i ≡ next_index rows → slice_get rows i ≡ Some row → list ≡ fresh d.project row.path → WorksIn d epoch row list rows left landed
+    → Lands (state_of d phase rows epoch stale seen owing ended) (state_of d phase left epoch stale false owing ended) landed
+worked_lands d phase rows left epoch stale seen owing ended i row list landed core order own index is found works =
+    subst (Lands (state_of d phase rows epoch stale seen owing ended) (state_of d phase left epoch stale false owing ended)) (sym works.landed_is)
+    (by works.shown (worked_makes d phase rows left epoch stale seen owing ended i row list works.shown order is least.permitted found works.due works.left_is))
   where
     least : IsLeastOwn (state_of d phase rows epoch stale seen owing ended) row.path
     least = least_own d phase rows epoch stale seen owing ended row core order own (ap (slice_get rows) (sym index) ∙ is)
 
-    by : (b : Bool) → IsShown (state_of d phase rows epoch stale seen owing ended) row.path list b → left ≡ after_worked row.path (cond b (Some list) None) rows
+    by : (b : Bool) → Makes (state_of d phase rows epoch stale seen owing ended) (state_of d phase left epoch stale false owing ended) (Work row.path epoch list b) (out_for d row.path epoch list b)
         → Lands (state_of d phase rows epoch stale seen owing ended) (state_of d phase left epoch stale false owing ended) (landed_by d row.path epoch list b)
-    by true rightly left_is = (
-      (least, refl),
-      record {
-        permitted = record { ready = least.permitted; now = refl; fresh = found; rightly = rightly };
-        made = worked_state d phase epoch stale owing ended
-            (ap (marked Todo) left_is ∙ marked-worked-without Todo row.path (Some list) rows (λ r. refl) order)
-            (ap (marked Owed) left_is ∙ marked-worked-without Owed row.path (Some list) rows (λ r. refl) order)
-            (ap (marked Edited) left_is ∙ marked-worked-same Edited row.path (Some list) rows (λ r. refl))
-            (ap lists_shown left_is ∙ lists-worked-some row.path list rows order (HasRow-at rows i row order is));
-        answered = refl;
-      },
-    )
-    by false rightly left_is = (
-      (least, refl),
-      record {
-        permitted = record { ready = least.permitted; now = refl; fresh = found; rightly = rightly };
-        made = worked_state d phase epoch stale owing ended
-            (ap (marked Todo) left_is ∙ marked-worked-without Todo row.path None rows (λ r. refl) order)
-            (ap (marked Owed) left_is ∙ marked-worked-without Owed row.path None rows (λ r. refl) order)
-            (ap (marked Edited) left_is ∙ marked-worked-same Edited row.path None rows (λ r. refl))
-            (ap lists_shown left_is ∙ lists-worked-none row.path rows);
-        answered = refl;
-      },
-    )
+    by true makes = ((least, refl), makes)
+    by false makes = ((least, refl), makes)
 
 -- none of the rows of a project before any step is to be worked on or owed
 pub opening-first : (p : Project) → (first_marked Todo (opening_rows p) ≡ length (opening_rows p)) × (first_marked Owed (opening_rows p) ≡ length (opening_rows p))
@@ -506,25 +520,31 @@ opening-first (file ∷ files) = let rest = opening-first files in (ap suc rest.
 
 -- ---- the phases of a core
 
-pub begun_core : (d new : Documents) (agreed : Agreed) (phase : Phase) (stale : Bool) (rows : List Row) (job : Known) → IsCore phase d stale rows job
-    → new ≡ record d { agreed = agreed } → IsCore Serving new true rows job
-begun_core d new agreed phase stale rows job core is = record {
-  paths = core.paths ∙ sym (ap (λ (x : Documents). paths_of x.project) is);
-  asked = λ no. absurd (grind (arith, no));
-  waiting = λ yes. absurd (grind (arith, yes));
-  built = λ begun no. absurd (grind (arith, no));
+pub begun_core : (d new : Documents) (agreed : Agreed) (phase : Phase) (stale : Bool) (rows : List Row) (job last : Known) → IsWholeCore phase d stale rows job last
+    → new ≡ record d { agreed = agreed } → IsWholeCore Serving new true rows job last
+begun_core d new agreed phase stale rows job last whole is = record {
+  core = record {
+    paths = whole.core.paths ∙ sym (ap (λ (x : Documents). paths_of x.project) is);
+    asked = λ no. absurd (grind (arith, no));
+    waiting = λ yes. absurd (grind (arith, yes));
+    built = λ begun no. absurd (grind (arith, no));
+  };
+  since = λ begun no. absurd (grind (arith, no));
 }
 
-abbrev account : State → ℕ → Bool → Account
-account s checks idle = record { state = s; own_checks = checks; idle = idle }
+abbrev account : State → Known → ℕ → Bool → Account
+account s last checks idle = record { state = s; job = last; own_checks = checks; idle = idle }
 
-pub closing_core : (d : Documents) (phase : Phase) (rows : List Row) (epoch : ℕ) (stale seen : Bool) (owing : Option Id) (ended : Option EndCause) (checks : ℕ) (idle : Bool) (job : Known) (a : Account)
-    → account (state_of d phase rows epoch stale seen owing ended) checks idle ≡ a → a.state.session.phase ≡ Serving → IsCore phase d stale rows job → IsCore Closing d stale rows job
-closing_core d phase rows epoch stale seen owing ended checks idle job a view serving core = record {
-  paths = core.paths;
-  asked = core.asked;
-  waiting = λ yes. absurd (grind (arith, yes));
-  built = λ begun fresh. core.built (ap is_waiting (ap (λ (x : Account). x.state.session.phase) view ∙ serving)) fresh;
+pub closing_core : (d : Documents) (phase : Phase) (rows : List Row) (epoch : ℕ) (stale seen : Bool) (owing : Option Id) (ended : Option EndCause) (checks : ℕ) (idle : Bool) (job last : Known) (a : Account)
+    → account (state_of d phase rows epoch stale seen owing ended) last checks idle ≡ a → a.state.session.phase ≡ Serving → IsWholeCore phase d stale rows job last → IsWholeCore Closing d stale rows job last
+closing_core d phase rows epoch stale seen owing ended checks idle job last a view serving whole = record {
+  core = record {
+    paths = whole.core.paths;
+    asked = whole.core.asked;
+    waiting = λ yes. absurd (grind (arith, yes));
+    built = λ begun fresh. whole.core.built (ap is_waiting (ap (λ (x : Account). x.state.session.phase) view ∙ serving)) fresh;
+  };
+  since = λ begun fresh. whole.since (ap is_waiting (ap (λ (x : Account). x.state.session.phase) view ∙ serving)) fresh;
 }
 
 -- ---- readings of a core

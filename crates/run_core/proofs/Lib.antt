@@ -15,3 +15,4 @@ pub mod NextFile
 pub mod Loading
 pub mod KeptFacts
 pub mod CoreSteps
+pub mod SinceBuild

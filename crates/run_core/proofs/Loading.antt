@@ -1,11 +1,13 @@
 -- The order of a project's files, and the files that a build loads one after the other.
 use Rattle.std.proofs.Common.{◌≡◌, ℕ, zero, suc, ◌+◌, true, cond, List, [], ◌∷◌, ◌++◌, take, refl, sym, ap, ◌∙◌, subst, add-one, arith}
-use Rattle.std.specs.Prelude.{Some, bytes_eq, unwrap_or}
+use Rattle.std.specs.Prelude.{Option, Some, bytes_eq, unwrap_or}
 use Rattle.std.specs.List.{slice_get}
+use Rattle.std.specs.Option.{option_map}
 use Rattle.std.specs.Ordering.{is_lt}
 use Rattle.std.specs.declared.cmp.Ordering.{Ordering}
 use Rattle.std.specs.declared.cmp.Ordering.TheVariants.{Less, Equal, Greater}
 use Rattle.srb_terms.specs.Projects.{bytes_at, path_cmp, IsBeforeAll, IsProject}
+use Rattle.srb_check.specs.Jobs.{bytes_of_file}
 use Rattle.lsp_docs.specs.Paths.{Path, Bytes, is_before}
 use Rattle.lsp_docs.specs.Projects.{Project, paths_of}
 use Rattle.lsp_docs.proofs.PathLemmas.{self_path}
@@ -59,6 +61,15 @@ file_at (file ∷ files) (suc i) f order is =
       ap (λ b. cond b (Some file.1) (bytes_at f files)) (apart_back file.0 f (before_at file.0 f files i order.0 is)) ∙ rest.1,
       ap (λ l. file ∷ l) rest.2,
     )
+
+-- the bytes at an index are those that the project has at the path there
+pub bytes_at_index : (p : Project) (i : ℕ) (f : Path) → IsProject p → slice_get (paths_of p) i ≡ Some f → option_map bytes_of_file (slice_get p i) ≡ bytes_at f p
+bytes_at_index [] i f order is = absurd (grind (arith, is))
+bytes_at_index (file ∷ files) zero f order is =
+    sym (ap (λ b. cond b (Some file.1) (bytes_at f files)) (ap (λ g. bytes_eq g file.0) (sym (some_same is)) ∙ self_path file.0))
+bytes_at_index (file ∷ files) (suc i) f order is =
+    bytes_at_index files i f order.1 is
+    ∙ sym (ap (λ b. cond b (Some file.1) (bytes_at f files)) (apart_back file.0 f (before_at file.0 f files i order.0 is)))
 
 -- the files up to one index and the file there are those up to the next index
 pub up_to_next : (p : Project) (i : ℕ) (f g : Path) (b c : Bytes) → take (suc i) p ≡ take i p ++ (f, b) ∷ [] → g ≡ f → c ≡ b

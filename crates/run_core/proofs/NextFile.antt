@@ -11,10 +11,10 @@ use Rattle.lsp_docs.proofs.PathLemmas.{same_path, self_path}
 use Rattle.run_core.specs.declared.row.Row.{Row}
 use Rattle.run_core.specs.declared.mark.Mark.{Mark}
 use Rattle.run_core.specs.declared.mark.Mark.TheVariants.{Todo, Owed}
-use Rattle.run_core.specs.Rows.{has_mark, marked, with_list, lists_shown, first_marked, next_index, IsBeforeRows, IsOrdered, OwedAreAsked}
+use Rattle.run_core.specs.Rows.{has_mark, is_path_of, marked, with_list, lists_shown, first_marked, next_index, place_of, IsBeforeRows, IsOrdered, OwedAreAsked}
 use Rattle.run_core.specs.Machine.{State, looked}
 use Rattle.run_core.specs.Cores.{IsNextOwn}
-use Rattle.run_core.proofs.RowMarks.{apart, apart_back, not_back, IsBeforePaths, marked-before}
+use Rattle.run_core.proofs.RowMarks.{apart, apart_back, before_through, either, not_back, same_test, IsBeforePaths, marked-before}
 use Rattle.run_core.proofs.RowIndexes.{before_at}
 
 some_same : {X : Type 0} {x y : X} → Some x ≡ Some y → x ≡ y
@@ -152,6 +152,22 @@ lookup-at (r ∷ rs) (suc i) row order is = by r.shown (lookup-at rs i row order
     by None ih = ih
     by (Some list) ih =
         ap (λ b. cond b (Some list) (lookup row.path (lists_shown rs))) (apart_back r.path row.path (before_at r.path rs i row order.0 is)) ∙ ih
+
+-- a path that isn't that of the row where it belongs is in no set
+pub absent-at : (f : Path) (rows : List Row) → IsOrdered rows → is_path_of f (slice_get rows (place_of f rows)) ≡ false → (m : Mark) → has f (marked m rows) ≡ false
+absent-at f [] order other m = refl
+absent-at f (r ∷ rs) order other m = by (is_before r.path f) refl other (has_mark m r) (λ here. absent-at f rs order.1 here m)
+  where
+    by : (b : Bool) → is_before r.path f ≡ b → is_path_of f (slice_get (r ∷ rs) (cond b (suc (place_of f rs)) 0)) ≡ false → (c : Bool)
+        → (is_path_of f (slice_get rs (place_of f rs)) ≡ false → has f (marked m rs) ≡ false) → has f (cond c (r.path ∷ marked m rs) (marked m rs)) ≡ false
+    by true before here true ih = ap (λ x. x || has f (marked m rs)) (apart_back r.path f before) ∙ ih here
+    by true before here false ih = ih here
+    by false after here true ih =
+        let first = either r.path f (same_test f r.path ∙ here) after in
+        ap (λ x. x || has f (marked m rs)) (apart f r.path first) ∙ not_after f (marked m rs) (marked-before m f rs (before_through f r.path rs first order.0))
+    by false after here false ih =
+        let first = either r.path f (same_test f r.path ∙ here) after in
+        not_after f (marked m rs) (marked-before m f rs (before_through f r.path rs first order.0))
 
 -- ---- the file that is next
 

@@ -1,11 +1,11 @@
 //! A build: each file of the project is loaded, and the symbol table is made of what they declare. And the same after an edit that keeps
 //! the symbol table.
 
-ghost use Rattle.std.specs.Prelude.{◌≡◌, ◌≢◌, ◌+◌, ◌<◌, ◌&&◌, List, Option, Some, not, length, take, IfOk, OnOk, IsTrue};
+ghost use Rattle.std.specs.Prelude.{◌≡◌, ◌≢◌, ◌+◌, ◌<◌, ◌≤◌, ◌&&◌, List, Option, Some, not, length, take, IfOk, OnOk, IsTrue};
 ghost use Rattle.std.specs.Option.{option_copied, option_map};
 ghost use Rattle.srb_terms.specs.Projects.{File, IsProject, bytes_at};
 ghost use Rattle.lsp_docs.specs.Paths.{Path, Bytes};
-ghost use Rattle.lsp_docs.specs.Documents.{Documents};
+ghost use Rattle.lsp_docs.specs.Documents.{Documents, MOST_FILES};
 ghost use Rattle.srb_check.specs.FactLists.{same_facts};
 ghost use Rattle.srb_check.specs.Jobs.{AreLoaded, IsJobOf, IsJobWith, facts_in};
 ghost use Rattle.srb_check.specs.Records.{loaded};
@@ -19,14 +19,16 @@ use std::alloc::Global;
 /// The job of the project whose present texts the documents have. Where `before` has a file with the same text, what was
 /// loaded of it is shared.
 pub fn job_of(alloc: Global, docs: &Docs, before: &Job) -> Result<Job, NoMemory>
-    ensures { IfOk result (IsJobOf docs.now.project) }
+    ensures job { IfOk result (IsJobOf docs.now.project) }
+    ensures few { OnOk result (length docs.now.project ≤ MOST_FILES) }
 {
     loaded_files(alloc, docs, before)?.job(alloc)
 }
 
 // The files of the project, each loaded.
 fn loaded_files(alloc: Global, docs: &Docs, before: &Job) -> Result<Files, NoMemory>
-    ensures { IfOk result (AreLoaded docs.now.project) }
+    ensures files { IfOk result (AreLoaded docs.now.project) }
+    ensures few { OnOk result (length docs.now.project ≤ MOST_FILES) }
 {
     let count = docs.len();
     let mut files = Files::new(alloc);

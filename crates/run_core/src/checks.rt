@@ -1,10 +1,15 @@
-//! What lands where a file was checked.
+//! What lands where a file was checked, and what comes of errors of a file that others found.
 
-ghost use Rattle.std.specs.Prelude.{◌≡◌, ◌+◌, ◌-◌, ◌^◌, ◌↔◌, [], min, unwrap_or, None, Some, IsTrue, IfOk, if◌then◌else◌};
-ghost use Rattle.run_core.specs.Cores.{IsDue, landed_by};
+ghost use Rattle.std.specs.Prelude.{◌≡◌, ◌+◌, ◌-◌, ◌^◌, ◌<◌, ◌↔◌, ◌&&◌, ◌||◌, not, [], length, min, slice_get, unwrap_or, None, Some, IsTrue, IfOk, OnErr, OnOk, if◌then◌else◌};
+ghost use Rattle.lsp_docs.specs.Paths.{Path};
+ghost use Rattle.run_core.specs.Cores.{HasRowAt, IsDue, IsFate, WorksIn, landed_by};
+ghost use Rattle.run_core.specs.Rows.{IsOrdered};
+ghost use Rattle.run_core.specs.declared.row.Row.{Row};
 
+use crate::fate::Fate;
 use crate::landed::Landed;
 use crate::row::Row;
+use crate::rows::Rows;
 use lsp_docs::Docs;
 use lsp_msg::Out;
 use run_watch::Step;
@@ -96,5 +101,70 @@ pub fn with_check(owed: bool, checks: u64) -> u64
         checks
     } else {
         checks.saturating_add(1)
+    }
+}
+
+/// Works a list in that was found in the file of the row at `index`, and answers what lands after `epoch` edits. Without memory the rows are
+/// as they were.
+pub fn work_in(
+    alloc: Global,
+    docs: &Docs,
+    rows: &mut Rows,
+    index: usize,
+    epoch: u64,
+    list: Items<Diag>,
+) -> Result<Landed, NoMemory>
+    requires { index < length rows.old.list }
+    ensures works { IfOk result (λ landed. (row : Row) → slice_get rows.old.list index ≡ Some row → WorksIn docs.now epoch row list rows.old.list rows.new.list landed) }
+    ensures ordered { OnOk result (IsOrdered rows.old.list) }
+    ensures err { OnErr result (rows.new ≡ rows.old) }
+{
+    let row = rows.row(index);
+    let shown = is_due(row, list.as_slice());
+    let landed = landed_of(alloc, docs, &row.path, epoch, list.as_slice(), shown)?;
+    rows.work(index, list_if(shown, list));
+    Ok(landed)
+}
+
+// Whether errors of the row's file are thrown away.
+fn is_dropped(row: &Row, stale: bool) -> bool
+    ensures { result ≡ (stale || not row.now.todo || row.now.edited) }
+{
+    stale || !row.todo || row.edited
+}
+
+// Whether errors of the row's file have to wait, where some file is owed or none is.
+fn has_to_wait(row: &Row, is_looked: bool, owes: bool) -> bool
+    ensures { result ≡ (not is_looked || (not row.now.owed && owes)) }
+{
+    !is_looked || (!row.owed && owes)
+}
+
+/// What comes of errors of the file at `path`, by whether the inbox was looked at and whether the symbol table is stale. They are thrown away
+/// where the table is stale, the file isn't to be worked on, or it was edited since the last build. Else they wait until the inbox was looked
+/// at, and until no other file is owed where this one isn't.
+pub fn fate_of(rows: &Rows, path: &Name, is_looked: bool, stale: bool) -> Fate
+    ensures fate { IsFate rows.now.list path.now is_looked stale result }
+    ensures ordered { IsOrdered rows.now.list }
+{
+    match rows.find(path) {
+        Some(index) => fate_at(rows, index, is_looked, stale),
+        None => Fate::Drop,
+    }
+}
+
+// The same of the file of the row at `index`.
+fn fate_at(rows: &Rows, index: usize, is_looked: bool, stale: bool) -> Fate
+    requires within { index < length rows.now.list }
+    requires ordered { IsOrdered rows.now.list }
+    ensures { (f : Path) → HasRowAt rows.now.list index f → IsFate rows.now.list f is_looked stale result }
+{
+    let row = rows.row(index);
+    if is_dropped(row, stale) {
+        Fate::Drop
+    } else if has_to_wait(row, is_looked, rows.owes()) {
+        Fate::Wait
+    } else {
+        Fate::Work(index)
     }
 }

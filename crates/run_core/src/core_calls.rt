@@ -8,35 +8,41 @@ ghost use Rattle.lsp_docs.specs.Projects.{total_bytes};
 ghost use Rattle.lsp_docs.specs.Uris.{is_empty};
 ghost use Rattle.run_watch.specs.declared.inp.Inp.TheVariants as inp;
 ghost use Rattle.run_watch.specs.declared.step.Step.TheVariants.{Take, Look, Build, Idle};
+ghost use Rattle.srb_check.specs.Found.{IsFoundIn};
+ghost use Rattle.srb_check.specs.Jobs.{IsJobOf};
 ghost use Rattle.srb_check.specs.Records.{loaded};
 ghost use Rattle.srb_terms.specs.Projects.{bytes_at};
-ghost use Rattle.run_core.specs.Cores.{Lands, Makes, IsEdited, IsNextOwn, after_edit_at, checks_after, end_of, ended_by, has_own, is_idle, keeps_at};
+ghost use Rattle.run_core.specs.Cores.{Lands, LandsBy, Makes, IsEdited, IsNextOwn, after_edit_at, checks_after, end_of, ended_by, has_own, is_idle, keeps_at};
 ghost use Rattle.run_core.specs.Machine.{is_at_rest, looked, opening, project_of};
 ghost use Rattle.run_core.specs.Sessions.{Waiting, Serving};
 
 use crate::answers::{closing_answer, log_of, reason_of, serving_answer, waiting_answer};
 use crate::builds::{edited_job, is_kept, job_of, stays};
-use crate::checks::{is_due, landed_of, list_if, with_check};
+use crate::checks::{fate_of, with_check, work_in};
+use crate::fate::Fate;
 use crate::landed::Landed;
 use crate::phase::Phase;
 use crate::rows::{Rows, next_row};
 use lsp_docs::Docs;
 use lsp_msg::{Id, Msg, Out};
-use run_watch::{EndCause, Inp};
+use run_queues::Item;
+use run_watch::{EndCause, Inp, Step};
 use srb_check::{FileRec, Job};
 use srb_terms::{Boxed, Name, NoMemory, Project, Steps};
 use std::alloc::{AllocError, Global};
 use std::marker::Model;
 use std::sync::ledger::Ledger;
 
-/// The core of a session: its documents, the project as it was built last, what is to be worked on, and what was written
-/// last of each file. A contract sees its `Account`: the state of the machine, a count, and whether it is idle.
+/// The core of a session: its documents, the project as it is now where the symbol table isn't stale, the project as it was at the last
+/// build, what is to be worked on, and what was written last of each file. A contract sees its `Account`: the state of the machine, what is
+/// known of the project of the last build, a count, and whether it is idle.
 #[derive(Drop)]
 pub struct Core {
     docs: Docs,
     phase: Phase,
     rows: Rows,
-    job: Job,
+    job: Boxed<Job>,
+    last: Boxed<Job>,
     epoch: u64,
     stale: bool,
     seen: bool,
@@ -47,13 +53,17 @@ pub struct Core {
 }
 
 impl Model for Core {
-    ghost use Rattle.run_core.specs.Cores.{Account, IsCore, state_of};
+    ghost use Rattle.std.specs.Coded.{codes};
+    ghost use Rattle.srb_check.specs.contracts.job.Job as shared;
+    ghost use Rattle.run_core.specs.Cores.{Account, IsWholeCore, state_of};
 
     ghost Value = { Account };
 
-    ghost view = { λ c. record { state = state_of c.docs c.phase c.rows.list c.epoch c.stale c.seen c.owing c.ended; own_checks = c.own_checks; idle = c.idle } };
+    ghost coded = { Prim.hlevel (codes, shared.the_row.coded) };
 
-    ghost invariant = { λ c. IsCore c.phase c.docs c.stale c.rows.list c.job };
+    ghost view = { λ c. record { state = state_of c.docs c.phase c.rows.list c.epoch c.stale c.seen c.owing c.ended; job = c.last; own_checks = c.own_checks; idle = c.idle } };
+
+    ghost invariant = { λ c. IsWholeCore c.phase c.docs c.stale c.rows.list c.job c.last };
 }
 
 impl Core {
@@ -66,7 +76,8 @@ impl Core {
         ensures checks { IfOk result (λ core. core.own_checks ≡ 0) }
         ensures idle { IfOk result (λ core. core.idle ≡ true) }
     {
-        let job = Job::empty(alloc)?;
+        let job = Boxed::new(alloc, Job::empty(alloc)?)?;
+        let last = job.copied()?;
         let rows = Rows::new(alloc, &files)?;
         let docs = Docs::new(alloc, files)?;
         Ok(Core {
@@ -74,6 +85,7 @@ impl Core {
             phase: Phase::Waiting,
             rows,
             job,
+            last,
             epoch: 0,
             stale: false,
             seen: false,
@@ -92,6 +104,7 @@ impl Core {
         ensures makes { IfOk result (λ out. Makes self.old.state self.new.state (Take inp) out) }
         ensures ended { OnOk result (self.new.state.ended ≡ ended_by inp) }
         ensures checks { self.new.own_checks ≡ self.old.own_checks }
+        ensures job { self.new.job ≡ self.old.job }
         ensures idle { OnOk result (self.new.idle ≡ false) }
         ensures err { OnErr result (self.new ≡ self.old) }
     {
@@ -115,6 +128,7 @@ impl Core {
         ensures makes { IfOk result (λ out. Makes self.old.state self.new.state (Take (inp.Msg msg)) out) }
         ensures ended { self.new.state.ended ≡ self.old.state.ended }
         ensures checks { self.new.own_checks ≡ self.old.own_checks }
+        ensures job { self.new.job ≡ self.old.job }
         ensures err { OnErr result (self.new ≡ self.old) }
     {
         match self.phase {
@@ -134,6 +148,7 @@ impl Core {
         ensures makes { IfOk result (λ out. Makes self.old.state self.new.state (Take (inp.Msg msg)) out) }
         ensures ended { self.new.state.ended ≡ self.old.state.ended }
         ensures checks { self.new.own_checks ≡ self.old.own_checks }
+        ensures job { self.new.job ≡ self.old.job }
         ensures err { OnErr result (self.new ≡ self.old) }
     {
         if let Msg::Initialize { root, .. } = &msg {
@@ -152,6 +167,7 @@ impl Core {
         ensures makes { IfOk result (λ out. Makes self.old.state self.new.state (Take (inp.Msg msg)) out) }
         ensures ended { self.new.state.ended ≡ self.old.state.ended }
         ensures checks { self.new.own_checks ≡ self.old.own_checks }
+        ensures job { self.new.job ≡ self.old.job }
         ensures err { OnErr result (self.new ≡ self.old) }
     {
         match &msg {
@@ -175,6 +191,7 @@ impl Core {
         ensures makes { IfOk result (λ out. Makes self.old.state self.new.state (Take (inp.Msg msg.now)) out) }
         ensures ended { self.new.state.ended ≡ self.old.state.ended }
         ensures checks { self.new.own_checks ≡ self.old.own_checks }
+        ensures job { self.new.job ≡ self.old.job }
         ensures err { OnErr result (self.new ≡ self.old) }
     {
         if self.epoch == u64::MAX {
@@ -210,10 +227,11 @@ impl Core {
         ensures state { OnOk result (self.new.state ≡ after_edit_at self.old.state docs path.now (keeps_at path.now (project_of self.old.state) docs.project)) }
         ensures ended { self.new.state.ended ≡ self.old.state.ended }
         ensures checks { self.new.own_checks ≡ self.old.own_checks }
+        ensures job { self.new.job ≡ self.old.job }
         ensures err { OnErr result (self.new ≡ self.old) }
     {
-        let file = self.job.load_at(alloc, path, docs.bytes(path))?;
-        let kept = is_kept(alloc, &self.docs, path, &file, &self.job)?;
+        let file = self.job.get().load_at(alloc, path, docs.bytes(path))?;
+        let kept = is_kept(alloc, &self.docs, path, &file, self.job.get())?;
         if stays(kept, self.stale) {
             self.take_kept(alloc, docs, path, &file)
         } else {
@@ -237,6 +255,7 @@ impl Core {
         ensures state { OnOk result (self.new.state ≡ after_edit_at self.old.state docs path.now kept) }
         ensures ended { self.new.state.ended ≡ self.old.state.ended }
         ensures checks { self.new.own_checks ≡ self.old.own_checks }
+        ensures job { self.new.job ≡ self.old.job }
         ensures err { OnErr result (self.new ≡ self.old) }
     {
         let path = path.copied()?;
@@ -266,14 +285,16 @@ impl Core {
         ensures state { OnOk result (self.new.state ≡ after_edit_at self.old.state docs path.now true) }
         ensures ended { self.new.state.ended ≡ self.old.state.ended }
         ensures checks { self.new.own_checks ≡ self.old.own_checks }
+        ensures job { self.new.job ≡ self.old.job }
         ensures err { OnErr result (self.new ≡ self.old) }
     {
         let name = path.copied()?;
         self.rows.reserve()?;
-        let edited = edited_job(alloc, &docs, path, file, &self.job)?;
+        let edited = edited_job(alloc, &docs, path, file, self.job.get())?;
+        let job = Boxed::new(alloc, edited)?;
         self.rows.edit(name, file.is_some(), true);
         self.docs = docs;
-        self.job = edited;
+        self.job = job;
         self.epoch += 1;
         self.seen = false;
         Ok(())
@@ -284,14 +305,15 @@ impl Core {
         ensures makes { Makes self.old.state self.new.state Look None }
         ensures seen { self.new.state ≡ record self.old.state { seen = true } }
         ensures checks { self.new.own_checks ≡ self.old.own_checks }
+        ensures job { self.new.job ≡ self.old.job }
         ensures idle { self.new.idle ≡ self.old.idle }
     {
         self.seen = true;
     }
 
     /// Loads the files of the project as it is now, and builds its symbol table. What was loaded of a file whose text is the
-    /// same is kept. After an error the core is as it was.
-    pub fn build(&mut self, alloc: Global) -> Result<(), NoMemory>
+    /// same is kept. The job of the build, which the core shares, is handed back. After an error the core is as it was.
+    pub fn build(&mut self, alloc: Global) -> Result<Boxed<Job>, NoMemory>
         requires looked { IsTrue (looked self.old.state) }
         requires stale { IsTrue self.old.state.stale }
         ensures makes { OnOk result (Makes self.old.state self.new.state Build None) }
@@ -299,14 +321,20 @@ impl Core {
         ensures built { OnOk result (IsFalse self.new.state.stale) }
         ensures ended { self.new.state.ended ≡ self.old.state.ended }
         ensures checks { self.new.own_checks ≡ self.old.own_checks }
+        ensures job { IfOk result (λ job. (job ≡ self.new.job) × IsJobOf (project_of self.new.state) job) }
+        ensures few { IfOk result (λ job. length job.files.paths ≤ MOST_FILES) }
         ensures idle { self.new.idle ≡ self.old.idle }
         ensures err { OnErr result (self.new ≡ self.old) }
     {
-        let job = job_of(alloc, &self.docs, &self.job)?;
+        let built = job_of(alloc, &self.docs, self.job.get())?;
+        let job = Boxed::new(alloc, built)?;
+        let last = job.copied()?;
+        let handed = job.copied()?;
         self.rows.build();
         self.stale = false;
         self.job = job;
-        Ok(())
+        self.last = last;
+        Ok(handed)
     }
 
     /// The least path in byte order that may be worked on. `None` exactly where there is none.
@@ -336,6 +364,7 @@ impl Core {
         ensures lands { IfOk result (Lands self.old.state self.new.state) }
         ensures counted { OnOk result (steps.new ≡ steps.old + 1) }
         ensures checks { OnOk result (self.new.own_checks ≡ checks_after self.old) }
+        ensures job { self.new.job ≡ self.old.job }
         ensures fewer { OnOk result (length self.new.state.todo < length self.old.state.todo) }
         ensures idle { self.new.idle ≡ self.old.idle }
         ensures stale { self.new.state.stale ≡ self.old.state.stale }
@@ -345,20 +374,42 @@ impl Core {
         let index = next_row(&self.rows);
         let file = self.rows.row(index);
         let owed = file.owed;
-        let list = self.job.check(alloc, &file.path, steps)?;
-        let shown = is_due(file, list.as_slice());
-        let landed = landed_of(
-            alloc,
-            &self.docs,
-            &file.path,
-            self.epoch,
-            list.as_slice(),
-            shown,
-        )?;
-        self.rows.work(index, list_if(shown, list));
+        let list = self.job.get().check(alloc, &file.path, steps)?;
+        let landed = work_in(alloc, &self.docs, &mut self.rows, index, self.epoch, list)?;
         self.seen = false;
         self.own_checks = with_check(owed, self.own_checks);
         Ok(landed)
+    }
+
+    /// Lands errors of a file that were found by the job of the last build. They are thrown away exactly where the machine permits that; else
+    /// they are handed back exactly where they must wait; else they are worked in, and the list is written where it was owed or differs from
+    /// the one written last. After an error the core is as it was.
+    pub fn land(&mut self, alloc: Global, item: Item) -> Result<Landed, NoMemory>
+        requires found { IsFoundIn self.old.job item.number item.list }
+        ensures lands { IfOk result (LandsBy self.old.job self.old.state self.new.state item) }
+        ensures checks { self.new.own_checks ≡ self.old.own_checks }
+        ensures job { self.new.job ≡ self.old.job }
+        ensures idle { self.new.idle ≡ self.old.idle }
+        ensures stale { self.new.state.stale ≡ self.old.state.stale }
+        ensures ended { self.new.state.ended ≡ self.old.state.ended }
+        ensures err { OnErr result (self.new ≡ self.old) }
+    {
+        let is_looked = self.is_looked();
+        let Some(path) = self.last.get().path_at(item.number as usize) else {
+            unreachable!()
+        };
+        match fate_of(&self.rows, path, is_looked, self.stale) {
+            Fate::Drop => Ok(Landed::Dropped(Step::Dropped {
+                path: path.copied()?,
+            })),
+            Fate::Wait => Ok(Landed::Later(item)),
+            Fate::Work(index) => {
+                let Item { number: _, list } = item;
+                let landed = work_in(alloc, &self.docs, &mut self.rows, index, self.epoch, list)?;
+                self.seen = false;
+                Ok(landed)
+            }
+        }
     }
 
     /// Whether nothing is left to work on.
@@ -372,7 +423,7 @@ impl Core {
     pub fn owes(&self) -> bool
         ensures { result ≡ not (is_empty self.now.state.owed) }
     {
-        self.rows.first_owed() < self.rows.as_slice().len()
+        self.rows.owes()
     }
 
     /// Whether the inbox counts as looked at.
@@ -422,6 +473,7 @@ impl Core {
         ensures makes { IfOk result (Makes self.old.state self.new.state Idle) }
         ensures ended { self.new.state.ended ≡ self.old.state.ended }
         ensures checks { self.new.own_checks ≡ self.old.own_checks }
+        ensures job { self.new.job ≡ self.old.job }
         ensures idle { OnOk result (IsTrue (is_idle self.new)) }
         ensures err { OnErr result (self.new ≡ self.old) }
     {

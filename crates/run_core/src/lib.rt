@@ -16,6 +16,7 @@ mod answers;
 mod builds;
 mod checks;
 mod core_calls;
+mod fate;
 mod landed;
 pub mod law;
 mod mark;

@@ -1,6 +1,10 @@
-ghost use Rattle.std.specs.Prelude.{◌≡◌, ◌<◌, ◌≤◌, length, vec_len, vec_capacity, slice_get, Some, IsTrue, OnOk, IfOk};
+ghost use Rattle.std.specs.Prelude.{◌≡◌, ◌<◌, ◌≤◌, length, vec_len, vec_capacity, not, slice_get, Some, IsTrue, IsFalse, IfNone, IfSome, OnOk, IfOk};
+ghost use Rattle.lsp_docs.specs.Paths.{has};
+ghost use Rattle.lsp_docs.specs.Uris.{is_empty};
+ghost use Rattle.run_core.specs.Cores.{HasRowAt};
 ghost use Rattle.run_core.specs.Rows.{IsOrdered, after_built, after_edited, after_worked, built_row, edited_row, first_marked, has_mark, is_path_of, marked, new_row, next_index, opening_row, opening_rows, place_of, worked_row};
 ghost use Rattle.run_core.specs.declared.row.Row.{Row};
+ghost use Rattle.run_core.specs.declared.mark.Mark.{Mark};
 ghost use Rattle.run_core.specs.declared.mark.Mark.TheVariants as mark;
 
 use crate::mark::Mark;
@@ -71,6 +75,28 @@ impl Rows {
         ensures { result ≡ first_marked mark.Owed self.now.list }
     {
         self.first_owed
+    }
+
+    /// Whether some row is owed.
+    pub fn owes(&self) -> bool
+        ensures { result ≡ not (is_empty (marked mark.Owed self.now.list)) }
+    {
+        self.first_owed < self.list.as_slice().len()
+    }
+
+    /// The index of the row of the path, if there is one.
+    pub fn find(&self, path: &Name) -> Option<usize>
+        ensures some { IfSome result (λ index. HasRowAt self.now.list index path.now) }
+        ensures within { IfSome result (λ index. index < length self.now.list) }
+        ensures none { IfNone result ((m : Mark) → IsFalse (has path.now (marked m self.now.list))) }
+        ensures ordered { IsOrdered self.now.list }
+    {
+        let index = place(self.list.as_slice(), path);
+        if is_at(self.list.as_slice(), index, path) {
+            Some(index)
+        } else {
+            None
+        }
     }
 
     /// Makes room for one more row.

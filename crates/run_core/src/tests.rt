@@ -61,7 +61,8 @@ fn build(rt: &impl Abort, alloc: Global, core: &mut Core) -> Result<(), NoMemory
     core.looked();
     assert!(rt; core.is_stale());
     assert!(rt; core.next_own().is_none());
-    core.build(alloc)
+    core.build(alloc)?;
+    Ok(())
 }
 
 fn check<L: Ledger>(
@@ -108,7 +109,7 @@ fn is_list(out: &Out, uri: &str, epoch: u64, text: &str) -> bool {
 
 fn is_shown(landed: &Landed, path: &str, uri: &str, epoch: u64, text: &str) -> bool {
     match landed {
-        Landed::Quiet(_step) => false,
+        Landed::Quiet(_) | Landed::Dropped(_) | Landed::Later(_) => false,
         Landed::Shown(step, out) => is_work(step, path, epoch) && is_list(out, uri, epoch, text),
     }
 }

@@ -57,7 +57,7 @@ with_steps-twice : (t : Option (List Step)) (xs ys : List Step) → with_steps (
 with_steps-twice None xs ys = refl
 with_steps-twice (Some zs) xs ys = ap Some (append_assoc zs xs ys)
 
-gains_then : (t t' t'' : Option (List Step)) (xs ys : List Step) → t' ≡ with_steps t xs → t'' ≡ with_steps t' ys → t'' ≡ with_steps t (xs ++ ys)
+pub gains_then : (t t' t'' : Option (List Step)) (xs ys : List Step) → t' ≡ with_steps t xs → t'' ≡ with_steps t' ys → t'' ≡ with_steps t (xs ++ ys)
 gains_then t t' t'' xs ys p q = q ∙ ap (λ k. with_steps k ys) p ∙ with_steps-twice t xs ys
 
 -- ---- frames

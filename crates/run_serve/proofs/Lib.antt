@@ -3,3 +3,4 @@ pub mod Hearing
 pub mod Rounds
 pub mod Sending
 pub mod Sessions
+pub mod Owed

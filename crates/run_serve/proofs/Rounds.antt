@@ -8,24 +8,30 @@ use Rattle.lsp_frame.specs.declared.writing.WriteEnd.{WriteEnd}
 use Rattle.lsp_frame.specs.declared.writing.WriteEnd.TheVariants as write_end
 use Rattle.lsp_msg.specs.Written.{body_of}
 use Rattle.lsp_msg.specs.declared.out.Out.{Out}
+use Rattle.srb_check.specs.Found.{IsFoundIn}
+use Rattle.srb_check.specs.Jobs.{Known}
+use Rattle.lsp_docs.specs.Paths.{Path}
 use Rattle.lsp_docs.specs.Uris.{is_empty}
 use Rattle.run_watch.specs.declared.inp.Inp.{Inp}
 use Rattle.run_watch.specs.Told.{with_steps}
 use Rattle.run_watch.specs.declared.step.Step.{Step}
-use Rattle.run_watch.specs.declared.step.Step.TheVariants.{Take, Look, Build, Work, Dropped, Idle}
+use Rattle.run_watch.specs.declared.step.Step.TheVariants.{Take, Look, Build, Work, Idle}
+use Rattle.run_watch.specs.declared.step.Step.TheVariants as step
+use Rattle.run_queues.specs.declared.item.Item.{Item}
 use Rattle.run_queues.specs.declared.heard.Heard.{Heard}
 use Rattle.run_queues.specs.declared.heard.Heard.TheVariants.{Took, Empty}
 use Rattle.run_queues.specs.Deliveries.{heard_of}
 use Rattle.run_queues.specs.Hearings.{Hearing, Hears}
 use Rattle.run_core.specs.Machine.{State, looked, is_at_rest}
 use Rattle.run_core.specs.Runs.{IsOver}
-use Rattle.run_core.specs.Cores.{Account, Makes, has_own, is_idle, Lands}
+use Rattle.run_core.specs.Cores.{Account, Makes, has_own, is_idle, Lands, LandsAt}
 use Rattle.run_core.specs.declared.landed.Landed.{Landed}
-use Rattle.run_core.specs.declared.landed.Landed.TheVariants.{Shown, Quiet}
+use Rattle.run_core.specs.declared.landed.Landed.TheVariants.{Shown, Quiet, Dropped, Later}
 use Rattle.run_serve.specs.declared.serve_end.ServeEnd.{ServeEnd}
 use Rattle.run_serve.specs.declared.serve_end.ServeEnd.TheVariants.{WriteFault, NoMemory}
-use Rattle.run_serve.specs.Deeds.{Kept, shown_out, step_of, stop_by, is_lost, AreWhole, Did, DidFront, Works, Turns, GainsOne, Goes, Says, Tells}
-use Rattle.run_serve.proofs.Deeds.{did_nothing, did_step, did_then, AreWhole-append, goes_quietly, works_then, works_saying, works_telling, front_step, no_step}
+use Rattle.run_serve.specs.Deeds.{Kept, given_back, hearing_in, stop_by, is_lost, AreWhole, Did, DidFront, IsDone, Works, Turns, GainsOne, GainsSome, Goes, Says, Tells, TellsLanded}
+use Rattle.run_serve.specs.Leading.{IsWaiting}
+use Rattle.run_serve.proofs.Deeds.{did_nothing, did_step, gains_then, did_then, AreWhole-append, goes_quietly, works_then, works_saying, works_telling, front_step, no_step}
 
 -- ---- a message that is written
 
@@ -92,21 +98,56 @@ pub own_there : (s : State) → looked s ≡ true → s.stale ≡ false → is_a
 own_there s seen built some = all_three (looked s) s.stale (is_empty s.todo) seen built some
 
 pub works_landing : {T : Type 0} (r : Result T ServeEnd) (s new : State) (landed : Landed) (h h' : Kept) (f f' : ℕ)
-    → Lands s new landed → Tells r (step_of landed) (shown_out landed) h h' f f' → Works r s [] new h h' f f'
+    → Lands s new landed → TellsLanded r landed h h' f f' → Works r s [] new h h' f f'
 works_landing r s new (Shown (Work p n list b) out) h h' f f' lands tells =
     works_telling r s new (Work p n list b) (Some out) h h' f f' lands.1.permitted lands.1.made lands.1.answered refl tells
 works_landing r s new (Shown (Take inp) out) h h' f f' lands tells = absurd lands.0
 works_landing r s new (Shown Look out) h h' f f' lands tells = absurd lands.0
 works_landing r s new (Shown Build out) h h' f f' lands tells = absurd lands.0
-works_landing r s new (Shown (Dropped p) out) h h' f f' lands tells = absurd lands.0
+works_landing r s new (Shown (step.Dropped p) out) h h' f f' lands tells = absurd lands.0
 works_landing r s new (Shown Idle out) h h' f f' lands tells = absurd lands.0
 works_landing r s new (Quiet (Work p n list b)) h h' f f' lands tells =
     works_telling r s new (Work p n list b) None h h' f f' lands.1.permitted lands.1.made lands.1.answered refl tells
 works_landing r s new (Quiet (Take inp)) h h' f f' lands tells = absurd lands.0
 works_landing r s new (Quiet Look) h h' f f' lands tells = absurd lands.0
 works_landing r s new (Quiet Build) h h' f f' lands tells = absurd lands.0
-works_landing r s new (Quiet (Dropped p)) h h' f f' lands tells = absurd lands.0
+works_landing r s new (Quiet (step.Dropped p)) h h' f f' lands tells = absurd lands.0
 works_landing r s new (Quiet Idle) h h' f f' lands tells = absurd lands.0
+works_landing r s new (Dropped made) h h' f f' lands tells = absurd lands
+works_landing r s new (Later item) h h' f f' lands tells = absurd lands
+
+-- nothing was done
+waits : {T : Type 0} (r : Result T ServeEnd) (s new : State) (h h' : Kept) (f f' : ℕ) → new ≡ s → IsDone r → h' ≡ h → f' ≡ f → Works r s [] new h h' f f'
+waits (Ok done) s new h h' f f' left is_done same unfailed = (subst (λ t. Did s [] t h h') (sym left) (subst (Did s [] s h) (sym same) (did_nothing s h)), tt, unfailed)
+waits (Err e) s new h h' f f' left is_done same unfailed = absurd is_done
+
+-- what comes of an item of a file
+pub works_item : {T : Type 0} (r : Result T ServeEnd) (s new : State) (p : Path) (item : Item) (landed : Landed) (h h' : Kept) (f f' : ℕ)
+    → LandsAt s new p item landed → TellsLanded r landed h h' f f' → Works r s [] new h h' f f'
+works_item r s new p item (Shown (Work q n list b) out) h h' f f' lands tells =
+    works_telling r s new (Work q n list b) (Some out) h h' f f' lands.2.permitted lands.2.made lands.2.answered refl tells
+works_item r s new p item (Shown (Take inp) out) h h' f f' lands tells = absurd lands.1
+works_item r s new p item (Shown Look out) h h' f f' lands tells = absurd lands.1
+works_item r s new p item (Shown Build out) h h' f f' lands tells = absurd lands.1
+works_item r s new p item (Shown (step.Dropped q) out) h h' f f' lands tells = absurd lands.1
+works_item r s new p item (Shown Idle out) h h' f f' lands tells = absurd lands.1
+works_item r s new p item (Quiet (Work q n list b)) h h' f f' lands tells =
+    works_telling r s new (Work q n list b) None h h' f f' lands.2.permitted lands.2.made lands.2.answered refl tells
+works_item r s new p item (Quiet (Take inp)) h h' f f' lands tells = absurd lands.1
+works_item r s new p item (Quiet Look) h h' f f' lands tells = absurd lands.1
+works_item r s new p item (Quiet Build) h h' f f' lands tells = absurd lands.1
+works_item r s new p item (Quiet (step.Dropped q)) h h' f f' lands tells = absurd lands.1
+works_item r s new p item (Quiet Idle) h h' f f' lands tells = absurd lands.1
+works_item r s new p item (Dropped made) h h' f f' lands tells =
+    works_telling r s new made None h h' f f' lands.1.permitted lands.1.made lands.1.answered (ap hearing_in lands.0) tells
+works_item r s new p item (Later back) h h' f f' lands tells = waits r s new h h' f f' lands.3 tells.0 tells.1 tells.2
+
+-- an item that waits is the one that was landed
+pub back_is : (s new : State) (p : Path) (item : Item) (landed : Landed) (job : Known) → LandsAt s new p item landed → IsFoundIn job item.number item.list → IsWaiting job (given_back landed)
+back_is s new p item (Shown made out) job lands found = tt
+back_is s new p item (Quiet made) job lands found = tt
+back_is s new p item (Dropped made) job lands found = tt
+back_is s new p item (Later back) job lands found = subst (λ (i : Item). IsFoundIn job i.number i.list) (sym lands.2) found
 
 -- ---- a reply
 
@@ -121,6 +162,13 @@ pub tells_one : {T : Type 0} (r : Result T ServeEnd) (x : Step) (out : Option Ou
 tells_one (Ok done) x out h h' f f' (inl told) = (x, told.0)
 tells_one (Ok done) x out h h' f f' (inr want) = absurd want.0
 tells_one (Err e) x out h h' f f' tells = tt
+
+pub landed_one : {T : Type 0} (r : Result T ServeEnd) (s new : State) (landed : Landed) (h h' : Kept) (f f' : ℕ) → Lands s new landed → TellsLanded r landed h h' f f'
+    → OnOk r (GainsOne h.told h'.told)
+landed_one r s new (Shown made out) h h' f f' lands tells = tells_one r made (Some out) h h' f f' tells
+landed_one r s new (Quiet made) h h' f f' lands tells = tells_one r made None h h' f f' tells
+landed_one r s new (Dropped made) h h' f f' lands tells = absurd lands
+landed_one r s new (Later item) h h' f f' lands tells = absurd lands
 
 -- a step that writes nothing, whatever the sink holds
 pub works_quietly : {T : Type 0} (r : Result T ServeEnd) (s new : State) (held : Option (List ℕ)) (t t' : Option (List Step)) (f : ℕ)
@@ -147,6 +195,24 @@ turns_then r s t u heard first p q h h' h'' f f' f'' is did whole same turns = (
   turns.1 ∙ ap (λ k. k ++ turns.0) is ∙ append_assoc first heard turns.0,
   works_then r s t u heard turns.0 h h' h'' f f' f'' did whole same turns.2,
 )
+
+-- a call that was cut short at once, because memory ran out
+pub stopped_at_once : (s t : State) (heard first p : List Heard) (h h' : Kept) (f f' : ℕ)
+    → p ≡ first ++ heard → Did s heard t h h' → AreWhole heard → f' ≡ f → Turns {T = Unit {0}} (Err NoMemory) s t first p h h' f f'
+stopped_at_once s t heard first p h h' f f' is did whole same =
+    turns_then {T = Unit {0}} (Err NoMemory) s t t heard first p p h h' h' f f' f' is did whole same ([], sym (append-nil p), (no_step t [] h' h' (omega arith) refl refl, refl))
+
+-- a call that does nothing more
+pub done_at_once : (s t : State) (heard first p : List Heard) (h h' : Kept) (f f' : ℕ)
+    → p ≡ first ++ heard → Did s heard t h h' → AreWhole heard → f' ≡ f → Turns {T = Unit {0}} (Ok tt) s t first p h h' f f'
+done_at_once s t heard first p h h' f f' is did whole same =
+    turns_then {T = Unit {0}} (Ok tt) s t t heard first p p h h' h' f f' f' is did whole same ([], sym (append-nil p), (did_nothing t h', tt, refl))
+
+-- one step, and then what a call did
+pub gains_some : {T : Type 0} (r : Result T ServeEnd) (s t : State) (p q : List Heard) (h : Kept) (h' h'' : Kept) (f f' : ℕ)
+    → GainsOne h.told h'.told → Turns r s t p q h' h'' f f' → OnOk r (GainsSome h.told h''.told)
+gains_some (Ok done) s t p q h h' h'' f f' one turns = (one.0, turns.2.0.steps, gains_then h.told h'.told h''.told (one.0 ∷ []) turns.2.0.steps one.1 turns.2.0.gains)
+gains_some (Err e) s t p q h h' h'' f f' one turns = tt
 
 -- ---- the inbox and the end
 

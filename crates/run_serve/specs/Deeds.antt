@@ -12,10 +12,11 @@ use Rattle.run_watch.specs.declared.inp.Inp.TheVariants.{End}
 use Rattle.run_watch.specs.declared.end_cause.EndCause.TheVariants as end
 use Rattle.run_watch.specs.declared.step.Step.{Step}
 use Rattle.run_watch.specs.declared.step.Step.TheVariants.{Take, Look}
+use Rattle.run_queues.specs.declared.item.Item.{Item}
 use Rattle.run_queues.specs.declared.heard.Heard.{Heard}
 use Rattle.run_queues.specs.declared.heard.Heard.TheVariants.{Took, Empty}
 use Rattle.run_core.specs.declared.landed.Landed.{Landed}
-use Rattle.run_core.specs.declared.landed.Landed.TheVariants.{Shown, Quiet}
+use Rattle.run_core.specs.declared.landed.Landed.TheVariants.{Shown, Quiet, Dropped, Later}
 use Rattle.run_core.specs.Histories.{listed}
 use Rattle.run_core.specs.Frames.{written_as}
 use Rattle.run_core.specs.Machine.{State}
@@ -102,6 +103,10 @@ Turns result old new heard_before heard_after before after faults_before faults 
 abbrev pub GainsOne : (told_before told : Option (List Step)) → Type 0
 GainsOne told_before told = (step : Step) × (told ≡ with_steps told_before (step ∷ []))
 
+-- the trace gained some steps
+abbrev pub GainsSome : (told_before told : Option (List Step)) → Type 0
+GainsSome told_before told = (step : Step) × (steps : List Step) × (told ≡ with_steps told_before (step ∷ steps))
+
 -- what a call did that hears and writes nothing, and may be cut short because memory ran out, whatever the sink holds
 abbrev pub Goes : {T E : Type 0} → Result T E → (old new : State) → (told_before told : Option (List Step)) → Type 0
 Goes (Ok done) old new told_before told =
@@ -127,6 +132,11 @@ IsWant (Ok done) = ⊥
 IsWant (Err WriteFault) = ⊥
 IsWant (Err NoMemory) = Unit {0}
 
+-- it went well
+abbrev pub IsDone : {T : Type 0} → Result T ServeEnd → Type 0
+IsDone (Ok done) = Unit {0}
+IsDone (Err end) = ⊥
+
 -- what telling the trace a step and then writing its message did, if there is one: the trace took note of it, or nothing
 -- was done because memory ran out
 abbrev pub Tells : {T : Type 0} → Result T ServeEnd → Step → Option Out → (before after : Kept) → (faults_before faults : ℕ) → Type 0
@@ -134,12 +144,16 @@ Tells r step out before after faults_before faults =
     ((after.told ≡ with_steps before.told (step ∷ [])) × Says r out before.held after.held faults_before faults)
     ⊎ (IsWant r × (after.told ≡ before.told) × (after.held ≡ before.held) × (faults ≡ faults_before))
 
--- the message that is to be written of a file that was worked on
-abbrev pub shown_out : Landed → Option Out
-shown_out (Shown step out) = Some out
-shown_out (Quiet step) = None
+-- the item that has to wait, if nothing was done
+abbrev pub given_back : Landed → Option Item
+given_back (Shown step out) = None
+given_back (Quiet step) = None
+given_back (Dropped step) = None
+given_back (Later item) = Some item
 
--- the step that was made where a file was worked on
-abbrev pub step_of : Landed → Step
-step_of (Shown step out) = step
-step_of (Quiet step) = step
+-- what telling the trace and the sink did of errors that landed: nothing where they have to wait
+abbrev pub TellsLanded : {T : Type 0} → Result T ServeEnd → Landed → (before after : Kept) → (faults_before faults : ℕ) → Type 0
+TellsLanded r (Shown step out) before after faults_before faults = Tells r step (Some out) before after faults_before faults
+TellsLanded r (Quiet step) before after faults_before faults = Tells r step None before after faults_before faults
+TellsLanded r (Dropped step) before after faults_before faults = Tells r step None before after faults_before faults
+TellsLanded r (Later item) before after faults_before faults = IsDone r × (after ≡ before) × (faults ≡ faults_before)

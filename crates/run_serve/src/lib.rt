@@ -10,6 +10,7 @@
 //! and written and over the steps that a trace was told. `specs/Deeds.antt` and `specs/Hearing.antt` have the words of the functions inside.
 #![tactic(auto)]
 
+mod leading;
 mod reading;
 mod say;
 mod serve_end;

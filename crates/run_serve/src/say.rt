@@ -1,12 +1,13 @@
 //! Messages and steps as the coordinator tells them.
 
-ghost use Rattle.std.specs.Prelude.{◌≡◌, ◌-◌, ◌^◌, ◌<◌};
-ghost use Rattle.run_serve.specs.Deeds.{Says, Tells, shown_out, step_of, stop_by};
+ghost use Rattle.std.specs.Prelude.{◌≡◌, ◌-◌, ◌^◌, ◌<◌, None};
+ghost use Rattle.run_serve.specs.Deeds.{Says, Tells, TellsLanded, given_back, stop_by};
 
 use crate::serve_end::ServeEnd;
 use lsp_frame::{WriteEnd, write};
 use lsp_msg::{Out, encode};
 use run_core::Landed;
+use run_queues::Item;
 use run_watch::{Step, Trace};
 use srb_io::Sink;
 use std::alloc::Global;
@@ -55,18 +56,27 @@ pub fn tell<K: Sink, T: Trace>(
     }
 }
 
-/// Tells the trace the step of a file that was worked on, and writes its errors where they are to be shown.
+/// Tells the trace the step that was made where errors of a file landed, and writes them where they are to be shown. Where none was made, since
+/// the errors have to wait, they are given back.
 pub fn tell_landed<K: Sink, T: Trace>(
     alloc: Global,
     sink: &mut K,
     trace: &mut T,
     landed: Landed,
+    back: &mut Option<Item>,
 ) -> Result<(), ServeEnd>
-    requires { K.faults sink.old < 2 ^ 64 - 1 }
-    ensures { Tells result (step_of landed) (shown_out landed) (record { held = K.held sink.old; told = T.told trace.old }) (record { held = K.held sink.new; told = T.told trace.new }) (K.faults sink.old) (K.faults sink.new) }
+    requires writes { K.faults sink.old < 2 ^ 64 - 1 }
+    requires none { back.old ≡ None }
+    ensures tells { TellsLanded result landed (record { held = K.held sink.old; told = T.told trace.old }) (record { held = K.held sink.new; told = T.told trace.new }) (K.faults sink.old) (K.faults sink.new) }
+    ensures back { back.new ≡ given_back landed }
 {
     match landed {
         Landed::Shown(step, out) => tell(alloc, sink, trace, &step, Some(out)),
         Landed::Quiet(step) => tell(alloc, sink, trace, &step, None),
+        Landed::Dropped(step) => tell(alloc, sink, trace, &step, None),
+        Landed::Later(item) => {
+            *back = Some(item);
+            Ok(())
+        }
     }
 }

@@ -1,12 +1,14 @@
 //! A session as a whole.
 
-ghost use Rattle.std.specs.Prelude.{◌≡◌, ◌+◌, ◌-◌, ◌^◌, ◌<◌, [], OnOk, None, length};
+ghost use Rattle.std.specs.Prelude.{◌≡◌, ◌+◌, ◌-◌, ◌^◌, ◌<◌, ◌≤◌, [], OnOk, None, length};
+ghost use Rattle.std.specs.Thread.{IsSync};
 ghost use Rattle.srb_terms.specs.Projects.{IsProject};
 ghost use Rattle.srb_terms.specs.Statuses.{status_of};
 ghost use Rattle.run_core.specs.Runs.{IsOver};
 ghost use Rattle.run_serve.specs.Causes.{IsCauseBy, cause_of, cause_of_stop};
 ghost use Rattle.run_serve.specs.Deeds.{Turns};
 ghost use Rattle.run_serve.specs.Hearing.{AreSent};
+ghost use Rattle.run_serve.specs.Leading.{HasServed};
 ghost use Rattle.run_serve.specs.Projects.{IsWithin};
 ghost use Rattle.run_serve.specs.Recorded.{ServesRecorded};
 
@@ -15,6 +17,7 @@ use crate::serve_end::ServeEnd;
 use crate::turning::coordinate;
 use run_core::Core;
 use run_gate::{Gate, Seat};
+use run_pool::Hold;
 use run_queues::{Inbox, PutPass, TakePass};
 use run_watch::{EndCause, Trace};
 use srb_io::{Sink, Source};
@@ -56,7 +59,14 @@ fn cause_of_stop(stop: ServeEnd) -> Cause
 }
 
 /// Runs the reader and the coordinator beside each other, until both are done.
-fn run_both<R: Threads + Wait + Sync, S: Source + Send, K: Sink + Send, T: Trace + Send, L: Ledger>(
+fn run_both<
+    R: Threads + Wait + Sync,
+    S: Source + Send,
+    K: Sink + Send,
+    T: Trace + Send,
+    H: Hold + Sync,
+    L: Ledger,
+>(
     rt: &R,
     alloc: Global,
     core: &mut Core,
@@ -66,11 +76,14 @@ fn run_both<R: Threads + Wait + Sync, S: Source + Send, K: Sink + Send, T: Trace
     gate: &Gate,
     seat: &mut Seat,
     reader_seat: &mut Seat,
+    workers: u8,
     source: &mut S,
     sink: &mut K,
     trace: &mut T,
+    hold: &H,
     steps: &mut Steps<L>,
 ) -> Result<(), ServeEnd>
+    requires workers { workers ≤ 16 }
     requires reads { S.faults source.old < 2 ^ 64 - 1 }
     requires writes { K.faults sink.old < 2 ^ 64 - 1 }
     requires putting { (putting.old.queue ≡ inbox.now.name) × (putting.old.sent ≡ []) }
@@ -83,13 +96,16 @@ fn run_both<R: Threads + Wait + Sync, S: Source + Send, K: Sink + Send, T: Trace
     ensures inbox { (putting.new.queue ≡ putting.old.queue) × (taking.new.queue ≡ taking.old.queue) }
     ensures gate { (seat.new.gate ≡ seat.old.gate) × (reader_seat.new.gate ≡ reader_seat.old.gate) }
 {
-    let (_, ended) = join_mut(
-        rt,
-        &mut || read(rt, alloc, source, inbox, putting, gate, reader_seat),
-        &mut || coordinate(
-            rt, alloc, core, inbox, taking, gate, seat, sink, trace, steps,
-        ),
-    );
+    let mut reader = || read(rt, alloc, source, inbox, putting, gate, reader_seat);
+    let mut coordinator = || -> Result<(), ServeEnd>
+        requires { IsSync R.row × IsSync H.row × (workers ≤ 16) × (K.faults sink.now < 2 ^ 64 - 1) × (taking.now.queue ≡ inbox.now.name) × (taking.now.kept ≡ None) × (seat.now.gate ≡ gate.now) × (0 < length seat.now.drawn + seat.now.left) }
+        ensures { HasServed result (record { core = core.entry.now; pass = taking.entry.now; seat = seat.entry.now; kept = record { held = K.held sink.entry.now; told = T.told trace.entry.now }; faults = K.faults sink.entry.now }) (record { core = core.exit.now; pass = taking.exit.now; seat = seat.exit.now; kept = record { held = K.held sink.exit.now; told = T.told trace.exit.now }; faults = K.faults sink.exit.now }) }
+    {
+        coordinate(
+            rt, alloc, core, inbox, taking, gate, seat, workers, sink, trace, hold, steps,
+        )
+    };
+    let (_, ended) = join_mut(rt, &mut reader, &mut coordinator);
     ended
 }
 
@@ -114,13 +130,16 @@ fn serve_counting<
     S: Source + Send,
     K: Sink + Send,
     T: Trace + Send,
+    H: Hold + Sync,
 >(
     rt: &R,
     alloc: Global,
     project: Project,
+    workers: u8,
     source: &mut S,
     sink: &mut K,
     trace: &mut T,
+    hold: &H,
     blank: Blank,
 ) -> Cause
     requires name { blank.name ≡ L.name }
@@ -128,6 +147,7 @@ fn serve_counting<
     requires some { 0 < blank.parts }
     requires ordered { IsProject project }
     requires within { IsWithin project }
+    requires workers { workers ≤ 16 }
     requires reads { S.faults source.old < 2 ^ 64 - 1 }
     requires writes { K.faults sink.old < 2 ^ 64 - 1 }
     ensures { ServesRecorded project result record {
@@ -167,9 +187,11 @@ fn serve_counting<
         &gate,
         &mut seat,
         &mut reader_seat,
+        workers,
         source,
         sink,
         trace,
+        hold,
         &mut steps,
     );
     inbox.meet(rt, putting, &mut taking);
@@ -177,17 +199,27 @@ fn serve_counting<
     cause_by(ended, &core)
 }
 
-/// Serves a session over this project: one thread reads messages, and the other does and writes all that follows from them.
-pub fn serve<R: Threads + Wait + Sync, S: Source + Send, K: Sink + Send, T: Trace + Send>(
+/// Serves a session over this project: one thread reads messages, and the other does and writes all that follows from them, with so many workers
+/// beside it while a project is checked.
+pub fn serve<
+    R: Threads + Wait + Sync,
+    S: Source + Send,
+    K: Sink + Send,
+    T: Trace + Send,
+    H: Hold + Sync,
+>(
     rt: &R,
     alloc: Global,
     project: Project,
+    workers: u8,
     source: &mut S,
     sink: &mut K,
     trace: &mut T,
+    hold: &H,
 ) -> Ended
     requires ordered { IsProject project }
     requires within { IsWithin project }
+    requires workers { workers ≤ 16 }
     requires reads { S.faults source.old < 2 ^ 64 - 1 }
     requires writes { K.faults sink.old < 2 ^ 64 - 1 }
     ensures status { result.status ≡ status_of result.cause }
@@ -205,13 +237,15 @@ pub fn serve<R: Threads + Wait + Sync, S: Source + Send, K: Sink + Send, T: Trac
       told_after = T.told trace.new;
     } }
 {
-    Ended::new(serve_counting::<R, Brand, S, K, T>(
+    Ended::new(serve_counting::<R, Brand, S, K, T, H>(
         rt,
         alloc,
         project,
+        workers,
         source,
         sink,
         trace,
+        hold,
         Blank::new(1),
     ))
 }

@@ -1,4 +1,4 @@
-ghost use Rattle.std.specs.Prelude.{◌≡◌, ◌<◌, ◌≤◌, None, length, IfOk, IsTrue};
+ghost use Rattle.std.specs.Prelude.{◌≡◌, ◌==◌, ◌<◌, ◌≤◌, None, length, IfOk, IsTrue};
 ghost use Rattle.lsp_docs.specs.Documents.{MOST_FILES};
 ghost use Rattle.lsp_docs.specs.Projects.{total_bytes};
 ghost use Rattle.srb_text.specs.Limits.{MOST_BYTES};
@@ -10,15 +10,17 @@ use crate::turning::turn;
 use lsp_msg::{Id, Msg};
 use run_core::Core;
 use run_gate::{Gate, Seat};
+use run_pool::Open;
 use run_queues::{Inbox, PutPass, TakePass};
-use run_watch::{EndCause, Inp, MemTrace, NoTrace, Step, Trace};
+use run_watch::{EndCause, Inp, Keep, MemTrace, NoTrace, Step, Trace, Watcher, Watchers};
 use srb_io::{Failed, MemSink, MemSource, Sink, Source};
 use srb_terms::{Items, Name, NoMemory, Project, Steps, Words};
 use std::alloc::{AllocError, Global};
 use std::marker::Brand;
 use std::process::Abort;
-use std::sync::Wait;
+use std::sync::atomic::{AtomicU64, Ordering};
 use std::sync::ledger::{Blank, Ledger};
+use std::sync::{Arc, Wait};
 use std::test::Fail;
 use std::thread::Threads;
 
@@ -109,7 +111,7 @@ fn frames_of(alloc: Global, bodies: &[&str]) -> Result<Vec<u8>, AllocError> {
 }
 
 /// Makes one round of the coordinator, and answers whether it went well. Where the round would wait it isn't made.
-fn round<R: Wait, K: Sink, T: Trace, L: Ledger>(
+fn round<R: Threads + Wait + Sync, K: Sink, T: Trace, L: Ledger>(
     rt: &R,
     alloc: Global,
     core: &mut Core,
@@ -133,14 +135,16 @@ fn round<R: Wait, K: Sink, T: Trace, L: Ledger>(
     if core.is_looked() && core.rest() && core.is_idle() {
         return false;
     }
-    match turn(rt, alloc, core, inbox, pass, gate, seat, sink, trace, steps) {
+    match turn(
+        rt, alloc, core, inbox, pass, gate, seat, 0, sink, trace, &Open, steps,
+    ) {
         Ok(()) => true,
         Err(ServeEnd::WriteFault | ServeEnd::NoMemory) => false,
     }
 }
 
 /// Makes so many rounds, and answers whether all went well.
-fn rounds<R: Wait, K: Sink, T: Trace, L: Ledger>(
+fn rounds<R: Threads + Wait + Sync, K: Sink, T: Trace, L: Ledger>(
     rt: &R,
     alloc: Global,
     core: &mut Core,
@@ -171,7 +175,7 @@ fn rounds<R: Wait, K: Sink, T: Trace, L: Ledger>(
 }
 
 /// Puts an input and makes so many rounds after it, and answers whether all went well.
-fn answer<R: Wait, K: Sink, T: Trace, L: Ledger>(
+fn answer<R: Threads + Wait + Sync, K: Sink, T: Trace, L: Ledger>(
     rt: &R,
     alloc: Global,
     core: &mut Core,
@@ -206,7 +210,7 @@ fn answer<R: Wait, K: Sink, T: Trace, L: Ledger>(
 }
 
 /// Puts the first input and makes four rounds, puts the second one and makes so many more, and answers whether all went well.
-fn play<R: Wait, K: Sink, T: Trace, L: Ledger>(
+fn play<R: Threads + Wait + Sync, K: Sink, T: Trace, L: Ledger>(
     rt: &R,
     alloc: Global,
     core: &mut Core,
@@ -236,7 +240,7 @@ fn play<R: Wait, K: Sink, T: Trace, L: Ledger>(
 }
 
 /// The same with an inbox and a gate of its own.
-fn begin<R: Wait, K: Sink, T: Trace, L: Ledger>(
+fn begin<R: Threads + Wait + Sync, K: Sink, T: Trace, L: Ledger>(
     rt: &R,
     alloc: Global,
     core: &mut Core,
@@ -270,7 +274,7 @@ fn begin<R: Wait, K: Sink, T: Trace, L: Ledger>(
 }
 
 /// The same over this project, with its checks counted on this blank.
-fn session<R: Wait, K: Sink, T: Trace, L: Ledger>(
+fn session<R: Threads + Wait + Sync, K: Sink, T: Trace, L: Ledger>(
     rt: &R,
     alloc: Global,
     project: Project,
@@ -296,7 +300,7 @@ fn session<R: Wait, K: Sink, T: Trace, L: Ledger>(
 }
 
 /// The steps over three files: four of a session that begins, and then so many more once `c.rb` is opened with this text.
-fn steps_of<R: Wait + Abort>(
+fn steps_of<R: Threads + Wait + Sync + Abort>(
     rt: &R,
     alloc: Global,
     text: &str,
@@ -320,6 +324,112 @@ fn steps_of<R: Wait + Abort>(
     )?;
     assert!(rt; well);
     Ok(trace)
+}
+
+/// The number of a step's kind, by its letter.
+fn kind_of(letter: u8) -> u64 {
+    match letter {
+        b'T' => 1,
+        b'L' => 2,
+        b'B' => 3,
+        b'W' => 4,
+        b'D' => 5,
+        _ => 6,
+    }
+}
+
+/// The sum with one more step of this kind, which tells its place too.
+fn with_kind(sum: u64, letter: u8) -> u64 {
+    sum.wrapping_mul(31).wrapping_add(kind_of(letter))
+}
+
+/// The sum of steps of these kinds, in order.
+fn sum_of(letters: &str) -> u64 {
+    let mut sum = 0;
+    for letter in letters.as_bytes() {
+        sum = with_kind(sum, *letter);
+    }
+    sum
+}
+
+/// A watcher that sums up the kinds of the steps that it is told, where others see the sum, and leaves after some.
+#[derive(Drop)]
+struct Summing {
+    sum: Arc<AtomicU64>,
+    stays_for: u64,
+}
+
+impl Watcher for Summing {
+    ghost seen = { λ _. None };
+
+    ghost leaves = { λ w _. w.stays_for == 0 };
+
+    fn saw(&mut self, s: &Step) -> Keep {
+        let sum = self.sum.load(Ordering::SeqCst);
+        let letter = letter_of(s).as_bytes();
+        if let Some(letter) = letter.first() {
+            self.sum.store(with_kind(sum, *letter), Ordering::SeqCst);
+        }
+        if self.stays_for == 0 {
+            return Keep::Leave;
+        }
+        self.stays_for -= 1;
+        Keep::Stay
+    }
+}
+
+/// Adds a box with a watcher that leaves after so many steps. Answers where its sum is seen.
+fn watched_by(
+    alloc: Global,
+    watchers: &mut Watchers,
+    stays_for: u64,
+) -> Result<Arc<AtomicU64>, AllocError> {
+    let seen = Arc::new(alloc, AtomicU64::new(0))?;
+    let sum = Arc::try_clone(&seen)?;
+    let watcher = Box::new(alloc, Summing { sum, stays_for })?;
+    watchers.boxes.push(watcher)?;
+    Ok(seen)
+}
+
+/// Makes the worked session with these watchers as its trace: four steps, and seven more once `c.rb` is opened.
+fn watch<R: Threads + Wait + Sync + Abort>(
+    rt: &R,
+    alloc: Global,
+    watchers: &mut Watchers,
+) -> Result<(), NoMemory> {
+    let project = three_files(alloc, NIL)?;
+    let first = initialize(alloc)?;
+    let second = open(alloc, ONE)?;
+    let mut sink = sink_of(alloc);
+    let well = session::<R, MemSink, Watchers, Brand>(
+        rt,
+        alloc,
+        project,
+        &mut sink,
+        watchers,
+        first,
+        second,
+        7,
+        Blank::new(1),
+    )?;
+    assert!(rt; well);
+    Ok(())
+}
+
+/// Of two boxed watchers over the worked session the first is told all its steps, and the second, which leaves, the first three.
+#[test]
+fn boxed_watchers_are_told_the_worked_session(rt: HostRuntime) -> Result<(), Fail> {
+    let alloc = rt.alloc();
+    let mut watchers = Watchers {
+        boxes: Vec::new(alloc),
+    };
+    let staying = watched_by(alloc, &mut watchers, 1000)?;
+    let leaving = watched_by(alloc, &mut watchers, 2)?;
+    watch(&rt, alloc, &mut watchers)?;
+    assert_eq!(rt; staying.load(Ordering::SeqCst), sum_of("TLBWTLWLWLI"));
+    assert_eq!(rt; leaving.load(Ordering::SeqCst), sum_of("TLB"));
+    assert_eq!(rt; watchers.boxes.len(), 1);
+    Ok(())
 }
 
 /// The letter of a step's kind.
@@ -513,9 +623,11 @@ fn a_session_is_served(rt: HostRuntime) -> Result<(), Fail> {
         &rt,
         alloc,
         Project::new(alloc),
+        2,
         &mut source,
         &mut sink,
         &mut trace,
+        &Open,
     );
     assert_eq!(rt; ended.status, 0);
     let replies = frames_of(alloc, &[INITIALIZED, NULL])?;

@@ -9,4 +9,5 @@ pub mod FactLists
 pub mod Checks
 pub mod Records
 pub mod Jobs
+pub mod Found
 pub mod Reports

@@ -21,7 +21,7 @@ const MOST_WORKERS: u16 = 16;
 const MOST_GENERATED: u16 = 1000;
 
 /// The number of workers where none is given.
-const USUAL_WORKERS: u8 = 2;
+pub const USUAL_WORKERS: u8 = 2;
 
 /// What the words of a command line ask for.
 #[derive(Drop)]

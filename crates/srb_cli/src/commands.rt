@@ -34,8 +34,9 @@ pub fn run<R: Threads + Wait + Sync, F: Files, S: Source + Send, K: Sink + Send,
 {
     match command_of(words) {
         Some(Command::Text | Command::Check(_)) => once(alloc, words, files, source, sink),
-        Some(Command::Serve(dir, _workers)) => {
-            Ended::new(lsp(rt, alloc, dir, files, source, sink, trace))
+        Some(Command::Serve(dir, workers)) => {
+            let cause = lsp(rt, alloc, dir, workers, files, source, sink, trace);
+            Ended::new(cause)
         }
         Some(Command::Generate(count)) => Ended::new(generate(rt, alloc, count, sink, trace)),
         None => usage(sink),

@@ -3,6 +3,8 @@
 ghost use Rattle.std.specs.Prelude.{◌≡◌, ◌-◌, ◌^◌, ◌<◌, ◌≤◌, ℕ, List, Option, IfOk, IfSome};
 ghost use Rattle.srb_cli.specs.Generating.{EndsGenerating, IsGenerated, IsGivenBy, generated_summary};
 
+use crate::command::USUAL_WORKERS;
+use run_pool::Open;
 use run_serve::serve;
 use run_watch::{MemTrace, Step, Trace};
 use srb_gen::{edits_in, errors_in, project, session, summary_bytes, tell_all};
@@ -26,7 +28,16 @@ fn steps_over<R: Threads + Wait + Sync>(
     let mut source = MemSource::new(bytes, Vec::new(alloc), Vec::new(alloc));
     let mut sink = MemSink::new(Vec::new(alloc), Vec::new(alloc));
     let mut trace = MemTrace::new(alloc);
-    let ended = serve(rt, alloc, project, &mut source, &mut sink, &mut trace);
+    let ended = serve(
+        rt,
+        alloc,
+        project,
+        USUAL_WORKERS,
+        &mut source,
+        &mut sink,
+        &mut trace,
+        &Open,
+    );
     match ended.cause {
         Cause::Done => Some(trace.steps),
         _ => None,

@@ -25,6 +25,8 @@ mod session_tests;
 #[cfg(test)]
 mod tests;
 mod text;
+#[cfg(test)]
+mod workers_tests;
 
 use commands::run;
 use run_watch::NoTrace;

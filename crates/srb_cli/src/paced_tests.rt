@@ -12,24 +12,24 @@ use std::sync::atomic::{AtomicU64, Ordering};
 use std::test::Fail;
 use std::thread::{Threads, yield_now};
 
-/// How many messages the source has given, and how many bytes were written.
+/// How many messages the source has given, and how much of what it waits for was done: bytes that were written, or checks that began.
 #[derive(Drop)]
 pub(crate) struct Pace {
     given: AtomicU64,
-    written: AtomicU64,
+    pub(crate) done: AtomicU64,
 }
 
 impl Pace {
     pub(crate) fn new() -> Pace {
         Pace {
             given: AtomicU64::new(0),
-            written: AtomicU64::new(0),
+            done: AtomicU64::new(0),
         }
     }
 }
 
 /// Whether the number comes to be at least this within 1,000,000 turns.
-fn comes_to(number: &AtomicU64, least: u64) -> bool {
+pub(crate) fn comes_to(number: &AtomicU64, least: u64) -> bool {
     for _ in 0..1_000_000 {
         if number.load(Ordering::SeqCst) >= least {
             return true;
@@ -39,14 +39,14 @@ fn comes_to(number: &AtomicU64, least: u64) -> bool {
     false
 }
 
-/// A message, and how many bytes must be written before it is given.
+/// A message, and how much must be done before it is given.
 #[derive(Drop)]
-struct Turn {
-    frame: Vec<u8>,
-    after: u64,
+pub(crate) struct Turn {
+    pub(crate) frame: Vec<u8>,
+    pub(crate) after: u64,
 }
 
-/// A source that gives one message after the other, each once enough was written, and fails where that doesn't come.
+/// A source that gives one message after the other, each once enough was done, and fails where that doesn't come.
 #[derive(Drop)]
 pub(crate) struct Client<'a> {
     pace: &'a Pace,
@@ -65,7 +65,7 @@ impl<'a> Source for Client<'a> {
         let Some(turn) = self.turns.get(self.next) else {
             return Ok(0);
         };
-        if self.at == 0 && !comes_to(&self.pace.written, turn.after) {
+        if self.at == 0 && !comes_to(&self.pace.done, turn.after) {
             self.faults += 1;
             return Err(Failed);
         }
@@ -121,13 +121,13 @@ impl<'a> Sink for Counting<'a> {
             return Err(Failed);
         }
         self.pace
-            .written
+            .done
             .fetch_add(piece.len() as u64, Ordering::SeqCst);
         Ok(piece.len())
     }
 }
 
-fn client_of<'a>(pace: &'a Pace, turns: Vec<Turn>) -> Client<'a>
+pub(crate) fn client_of<'a>(pace: &'a Pace, turns: Vec<Turn>) -> Client<'a>
     ensures { ⟦<Client<'a> as Source>⟧.faults result ≡ 0 }
 {
     Client {

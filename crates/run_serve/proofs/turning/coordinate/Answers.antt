@@ -12,6 +12,7 @@ turns-init g c = record {
   unfailed = refl;
   inbox = (refl, refl);
   none = c.requires.none;
+  owed = λ some whole. (refl, whole);
   seat = (refl, refl, refl);
 }
 
@@ -38,5 +39,14 @@ turns-preserved g c =
       unfailed = t.2.2;
       inbox = (c.in-Ok.ensures.inbox.0 ∙ i.inbox.0, c.in-Ok.ensures.inbox.1 ∙ i.inbox.1);
       none = c.in-Ok.ensures.none;
+      owed = λ some whole.
+          let before = i.owed some whole in
+          (c.in-Ok.ensures.checks some before.1 ∙ before.0, c.in-Ok.ensures.owed some before.1);
       seat = (c.in-Ok.ensures.seat.0 ∙ i.seat.0, c.in-Ok.ensures.seat.1 ∙ i.seat.1, c.in-Ok.ensures.seat.2 ∙ i.seat.2);
     }
+
+pub returns-in-Err-clause-checks : goal.returns-in-Err-clause-checks
+returns-in-Err-clause-checks g c = λ some whole. let before = c.turns.invariant.owed some whole in c.in-Err.ensures.checks some before.1 ∙ before.0
+
+pub returns-then-is_over-clause-checks : goal.returns-then-is_over-clause-checks
+returns-then-is_over-clause-checks g c = λ some whole. let before = c.turns.invariant.owed some whole in c.in-Ok.ensures.checks some before.1 ∙ before.0

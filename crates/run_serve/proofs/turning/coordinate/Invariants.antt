@@ -1,7 +1,8 @@
-use Rattle.std.proofs.Common.{◌≡◌, ◌++◌, List}
+use Rattle.std.proofs.Common.{◌≡◌, ◌++◌, ◌<◌, List}
 use Rattle.std.specs.Prelude.{None}
 use Rattle.run_queues.specs.declared.heard.Heard.{Heard}
 use Rattle.run_serve.specs.Deeds.{AreWhole, Did}
+use Rattle.run_serve.specs.Leading.{IsOwedWhole}
 use Rattle.run_serve.proofs.turning.coordinate.Given as goal
 
 abbrev pub invariant-turns : goal.invariant-turns
@@ -14,5 +15,6 @@ invariant-turns g l = record {
   unfailed : g.K.Sink.faults l.sink ≡ g.K.Sink.faults l.initial.sink;
   inbox : (l.pass.queue ≡ l.initial.pass.queue) × (l.pass.sent ≡ l.initial.pass.sent);
   none : l.pass.kept ≡ None;
+  owed : 0 < l.workers → IsOwedWhole l.initial.core.state → (l.core.own_checks ≡ l.initial.core.own_checks) × IsOwedWhole l.core.state;
   seat : (l.seat.gate ≡ l.initial.seat.gate) × (l.seat.drawn ≡ l.initial.seat.drawn) × (l.seat.left ≡ l.initial.seat.left);
 }

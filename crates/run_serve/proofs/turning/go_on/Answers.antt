@@ -1,5 +1,6 @@
-use Rattle.run_serve.proofs.Rounds.{works_quietly}
+use Rattle.std.proofs.Common.{sym}
+use Rattle.run_serve.proofs.Owed.{owed_some}
 use Rattle.run_serve.proofs.turning.go_on.Goals as goal
 
-pub returns-then-is_stale-clause-works : goal.returns-then-is_stale-clause-works
-returns-then-is_stale-clause-works g c = works_quietly c.build.result _ _ _ _ _ _ c.build.ensures.want c.build.ensures.goes
+pub returns-else-rest-clause-checks : goal.returns-else-rest-clause-checks
+returns-else-rest-clause-checks g c = λ some whole. c.work.ensures.checks (owed_some c.args.core.now.state whole (sym c.if-is_stale.ensures) (sym c.if-rest.ensures))

@@ -21,7 +21,7 @@ returns-then-index-as_slice-clause-next c =
     both (looked s) (not i.stale) (ap (λ (a : Account). looked a.state) c.self.view_is ∙ sym c.is_looked.ensures ∙ c.if-not-is_looked.false) (ap not c.if-self.false) in
     subst (λ (a : Account). IsNextOwn a.state (Some c.row.result.now.path)) c.self.view_is
     (subst (λ (o : Option Row). IsNextOwn s (option_map (λ (r : Row). r.path) o)) found
-    (next_row-is i.docs i.phase i.rows.list i.epoch i.stale i.seen i.owing i.ended c.self.invariant c.as_slice.ensures.ordered ready))
+    (next_row-is i.docs i.phase i.rows.list i.epoch i.stale i.seen i.owing i.ended c.self.invariant.core c.as_slice.ensures.ordered ready))
 
 pub returns-then-index-as_slice-clause-some : goal.returns-then-index-as_slice-clause-some
 returns-then-index-as_slice-clause-some c =
@@ -31,7 +31,7 @@ returns-then-index-as_slice-clause-some c =
     let ready : (looked s && not i.stale) ≡ true =
     both (looked s) (not i.stale) (ap (λ (a : Account). looked a.state) c.self.view_is ∙ sym c.is_looked.ensures ∙ c.if-not-is_looked.false) (ap not c.if-self.false) in
     sym (sym (ap (λ (a : Account). has_own a.state) c.self.view_is)
-    ∙ both (looked s && not i.stale) (not (is_empty (marked Todo i.rows.list))) ready (sym (next_row-some i.rows.list (c.self.invariant.asked c.if-self.false)) ∙ ap is_some found))
+    ∙ both (looked s && not i.stale) (not (is_empty (marked Todo i.rows.list))) ready (sym (next_row-some i.rows.list (c.self.invariant.core.asked c.if-self.false)) ∙ ap is_some found))
 
 pub returns-else-index-as_slice-clause-next : goal.returns-else-index-as_slice-clause-next
 returns-else-index-as_slice-clause-next c =
@@ -42,7 +42,7 @@ returns-else-index-as_slice-clause-next c =
     both (looked s) (not i.stale) (ap (λ (a : Account). looked a.state) c.self.view_is ∙ sym c.is_looked.ensures ∙ c.if-not-is_looked.false) (ap not c.if-self.false) in
     subst (λ (a : Account). IsNextOwn a.state None) c.self.view_is
     (subst (λ (o : Option Row). IsNextOwn s (option_map (λ (r : Row). r.path) o)) (slice_get_past i.rows.list (next_index i.rows.list) past)
-    (next_row-is i.docs i.phase i.rows.list i.epoch i.stale i.seen i.owing i.ended c.self.invariant c.as_slice.ensures.ordered ready))
+    (next_row-is i.docs i.phase i.rows.list i.epoch i.stale i.seen i.owing i.ended c.self.invariant.core c.as_slice.ensures.ordered ready))
 
 pub returns-else-index-as_slice-clause-some : goal.returns-else-index-as_slice-clause-some
 returns-else-index-as_slice-clause-some c =
@@ -51,4 +51,4 @@ returns-else-index-as_slice-clause-some c =
     let past : length i.rows.list ≤ next_index i.rows.list = subst (λ n. length i.rows.list ≤ n) c.next_row-index.ensures (subst (λ l. length l ≤ c.next_row-index.result) c.as_slice.ensures.list c.if-index-as_slice.false) in
     sym (sym (ap (λ (a : Account). has_own a.state) c.self.view_is)
     ∙ not_both (looked s && not i.stale) (not (is_empty (marked Todo i.rows.list)))
-    (sym (next_row-some i.rows.list (c.self.invariant.asked c.if-self.false)) ∙ ap is_some (slice_get_past i.rows.list (next_index i.rows.list) past)))
+    (sym (next_row-some i.rows.list (c.self.invariant.core.asked c.if-self.false)) ∙ ap is_some (slice_get_past i.rows.list (next_index i.rows.list) past)))

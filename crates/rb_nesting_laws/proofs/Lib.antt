@@ -1,0 +1,5 @@
+pub mod Rows
+pub mod Goes
+pub mod Derived
+pub mod Laws
+mod Examples

@@ -1,0 +1,4 @@
+pub mod Courses
+mod Crossing
+pub mod Dealing
+pub mod Rounds

@@ -1,0 +1,5 @@
+pub mod Dealt
+pub mod Found
+pub mod Leading
+pub mod Paths
+pub mod Working
