@@ -20,7 +20,7 @@ const INITIALIZE: &str =
     r#"{"id":1,"jsonrpc":"2.0","method":"initialize","params":{"capabilities":{},"rootUri":"file:///p"}}"#;
 
 const CLASS: &str =
-    r##"{"jsonrpc":"2.0","method":"textDocument/didOpen","params":{"textDocument":{"uri":"file:///p/f500.rb","languageId":"ruby","version":1,"text":"class Added\nend\n"}}}"##;
+    r##"{"jsonrpc":"2.0","method":"textDocument/didOpen","params":{"textDocument":{"uri":"file:///p/g0500.rb","languageId":"ruby","version":1,"text":"class Added\nend\n"}}}"##;
 
 const SHUTDOWN: &str = r#"{"id":2,"jsonrpc":"2.0","method":"shutdown"}"#;
 
@@ -58,7 +58,7 @@ impl<'a> Trace for Counts<'a> {
         match s {
             Step::Work { path, .. } => {
                 let works = self.seen.works.fetch_add(1, Ordering::SeqCst);
-                if path.as_str() == "f0.rb" {
+                if path.as_str() == "g0000.rb" {
                     self.seen.before_first.store(works, Ordering::SeqCst);
                 }
             }
