@@ -318,3 +318,10 @@ pub closure_send : (name : List ℕ) (A B C D E F G H : RattleType) → IsSend A
 closure_send name A B C D E F G H a b c d e f g h =
     let T = type_at name (A ∷ B ∷ C ∷ D ∷ E ∷ F ∷ G ∷ H ∷ []) in
     recorded_send (Struct (struct.shape T)) T.D T.to T.to_one (struct_send (struct.shape T) (a, (b, (c, (d, (e, (f, (g, (h, tt)))))))))
+
+-- a closure over seven captures may be sent where each of them may
+pub seven_send : (name : List ℕ) (A B C D E F G : RattleType) → IsSend A → IsSend B → IsSend C → IsSend D → IsSend E → IsSend F → IsSend G
+    → IsSend (TupleAt name (A ∷ B ∷ C ∷ D ∷ E ∷ F ∷ G ∷ []))
+seven_send name A B C D E F G a b c d e f g =
+    let T = type_at name (A ∷ B ∷ C ∷ D ∷ E ∷ F ∷ G ∷ []) in
+    recorded_send (Struct (struct.shape T)) T.D T.to T.to_one (struct_send (struct.shape T) (a, (b, (c, (d, (e, (f, (g, tt))))))))

@@ -167,6 +167,16 @@ fn no_file_is_drawn_where_there_is_none(rt: HostRuntime) -> Result<(), NoMemory>
 }
 
 #[test]
+fn three_workers_share_three_files(rt: HostRuntime) -> Result<(), NoMemory> {
+    let alloc = rt.alloc();
+    let job = job_of(alloc, 3)?;
+    let mut chief = chief_for(3);
+    let path = with_workers(&rt, alloc, 3, &job, &Open, &mut chief)?;
+    assert_eq!(rt; (chief.taken, chief.numbers, path.drawn), (3, 7, 6));
+    Ok(())
+}
+
+#[test]
 fn sixteen_workers_share_three_files(rt: HostRuntime) -> Result<(), NoMemory> {
     let alloc = rt.alloc();
     let job = job_of(alloc, 3)?;
@@ -233,6 +243,29 @@ fn a_worker_drains_a_path(rt: HostRuntime) -> Result<(), NoMemory> {
     assert!(rt; end.why == Why::Drained);
     assert_eq!(rt; end.seat.drawn(), 4);
     assert!(rt; next_three(&rt, &results, &mut pass) == [0, 1, 2]);
+    Ok(())
+}
+
+#[test]
+fn a_worker_stops_where_the_gate_is_raised(rt: HostRuntime) -> Result<(), NoMemory> {
+    let alloc = rt.alloc();
+    let job = job_of(alloc, 3)?;
+    let (gate, mut seat) = Gate::new(alloc)?;
+    let (results, mut pass) = Results::new(alloc, 3, JobView::new(&job)?)?;
+    let given_seat = gate.split(alloc, &mut seat)?;
+    let given_pass = results.split(&rt, alloc, &mut pass)?;
+    gate.raise(&mut seat);
+    let end = work(
+        &rt,
+        alloc,
+        job.get(),
+        &gate,
+        given_seat,
+        &results,
+        given_pass,
+        &Open,
+    );
+    assert!(rt; end.why == Why::Stopped);
     Ok(())
 }
 

@@ -13,6 +13,7 @@ use std::alloc::{AllocError, Global};
 use std::marker::Model;
 use std::sync::Wait;
 use std::thread::Parker;
+use std::time::Duration;
 
 /// The inbox of a session, which two threads share by a reference: one puts inputs, and the other takes them. A contract sees
 /// it as its name.
@@ -160,6 +161,14 @@ impl Inbox {
     {
         let _ = p;
         self.parker.park(rt);
+    }
+
+    /// Waits until another thread calls `put` or `wake`, as `wait` does, but 100 microseconds at most.
+    pub fn wait_briefly<R: Wait>(&self, rt: &R, p: &TakePass)
+        requires { p.now.queue ≡ self.now.name }
+    {
+        let _ = p;
+        self.parker.park_timeout(rt, Duration::from_micros(100));
     }
 
     /// Wakes the thread that waits, or lets the next `wait` return at once.

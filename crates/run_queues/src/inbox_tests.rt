@@ -224,6 +224,7 @@ fn two_threads_hand_inputs_over_in_order(rt: HostRuntime) -> Result<(), NoMemory
     assert!(rt; is_all_heard(&rt, &inbox, put_pass, &mut take_pass));
     inbox.wake(&rt);
     inbox.wait(&rt, &mut take_pass);
+    inbox.wait_briefly(&rt, &take_pass);
     end_met(inbox, take_pass);
     Ok(())
 }

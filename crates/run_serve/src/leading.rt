@@ -25,8 +25,11 @@ use std::sync::ledger::Ledger;
 use std::thread;
 use std::thread::Threads;
 
+/// How often in a row the results may be found empty before a leader sleeps for a while after each time.
+const MOST_YIELDS: u32 = 64;
+
 /// How often in a row the results may be found empty before the inbox is looked at.
-const MOST_EMPTY_POLLS: u32 = 4096;
+const MOST_EMPTY_POLLS: u32 = 68;
 
 /// How many items a leader takes at most.
 const MOST_ITEMS: u64 = 0xffff_ffff;
@@ -42,25 +45,29 @@ pub(crate) struct Keeping {
     pub(crate) empty: u32,
 }
 
-/// Takes an item of the results, if there is one, else lets other threads go on.
+/// Takes an item of the results, if there is one, else lets other threads go on: at first for an instant, later until a message comes or a while
+/// is over.
 fn poll<R: Wait>(
     rt: &R,
+    inbox: &Inbox,
+    pass: &TakePass,
     results: &Results<JobView>,
-    pass: &mut ResPass<JobView>,
+    items: &mut ResPass<JobView>,
     keeping: &mut Keeping,
 ) -> Result<(), NoMemory>
-    requires queue { pass.old.queue ≡ results.now.name }
-    requires left { 2 ^ 32 ≤ pass.old.left + keeping.old.taken }
+    requires inbox { pass.now.queue ≡ inbox.now.name }
+    requires queue { items.old.queue ≡ results.now.name }
+    requires left { 2 ^ 32 ≤ items.old.left + keeping.old.taken }
     requires few { keeping.old.taken < 2 ^ 32 }
     requires none { keeping.old.item ≡ None }
-    ensures taken { HasTaken pass.old pass.new keeping.old.taken keeping.new.taken }
+    ensures taken { HasTaken items.old items.new keeping.old.taken keeping.new.taken }
     ensures few { keeping.new.taken < 2 ^ 32 }
-    ensures item { (job : Known) → pass.old.view ≡ Some job → IsWaiting job keeping.new.item }
+    ensures item { (job : Known) → items.old.view ≡ Some job → IsWaiting job keeping.new.item }
 {
     if keeping.taken >= MOST_ITEMS {
         return Err(AllocError);
     }
-    match results.take(rt, pass) {
+    match results.take(rt, items) {
         Some(item) => {
             keeping.item = Some(item);
             keeping.taken += 1;
@@ -68,7 +75,11 @@ fn poll<R: Wait>(
         }
         None => {
             keeping.empty = keeping.empty.saturating_add(1);
-            thread::yield_now();
+            if keeping.empty > MOST_YIELDS {
+                inbox.wait_briefly(rt, pass);
+            } else {
+                thread::yield_now();
+            }
         }
     }
     Ok(())
@@ -162,7 +173,7 @@ fn lead_round<R: Wait, K: Sink, T: Trace, L: Ledger>(
     ensures item { IsWaiting core.new.job keeping.new.item }
 {
     if keeping.item.is_none() && !core.owes() {
-        if poll(rt, results, items, keeping).is_err() {
+        if poll(rt, inbox, pass, results, items, keeping).is_err() {
             return Err(ServeEnd::NoMemory);
         }
         return listen(rt, alloc, core, inbox, pass, sink, trace, keeping);

@@ -171,3 +171,24 @@ fn folders_at_the_limits(rt: HostRuntime) -> Result<(), Fail> {
     assert_eq!(rt; sink.held.as_slice(), b"".as_slice());
     Ok(())
 }
+
+/// 500 classes in a circle: each has an error.
+#[test]
+fn a_circle_of_classes(rt: HostRuntime) -> Result<(), Fail> {
+    let alloc = rt.alloc();
+    let mut text = Vec::new(alloc);
+    for n in 0..500u32 {
+        let next = (n + 1) % 500;
+        let class = format!(in alloc; "class C{n} < C{next}\nend\n")?;
+        text.extend_from_slice(class.as_bytes())?;
+    }
+    let files = folder_of(alloc, &[("a.rb", text.as_slice())], &[])?;
+    let (status, held) = checked(&rt, alloc, files)?;
+    assert_eq!(rt; status, 1);
+    assert!(rt;
+        held.as_slice()
+            .starts_with(b"a.rb:1:12: 9005 circular parent C1 of C0\n")
+    );
+    assert_eq!(rt; held.as_slice().split(|byte| *byte == b'\n').count(), 501);
+    Ok(())
+}

@@ -28,9 +28,9 @@ impl Pace {
     }
 }
 
-/// Whether the number comes to be at least this within 1,000,000 turns.
+/// Whether the number comes to be at least this within 20,000,000 turns.
 pub(crate) fn comes_to(number: &AtomicU64, least: u64) -> bool {
-    for _ in 0..1_000_000 {
+    for _ in 0..20_000_000 {
         if number.load(Ordering::SeqCst) >= least {
             return true;
         }

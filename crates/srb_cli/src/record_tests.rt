@@ -1,7 +1,9 @@
 ghost use Rattle.std.specs.Prelude.{◌==◌, None};
 
 use crate::commands::run;
-use crate::session_tests::{files_of, frames_of, sink_of, source_of};
+use crate::session_tests::{
+    EXIT, INITIALIZE, OPEN, SHUTDOWN, files_of, frames_of, sink_of, source_of,
+};
 use run_watch::{EndCause, Inp, Keep, MemTrace, Step, Trace, Watcher, Watchers};
 use srb_terms::NoMemory;
 use std::alloc::{AllocError, Global};
@@ -9,8 +11,6 @@ use std::sync::atomic::{AtomicU64, Ordering};
 use std::sync::{Arc, Wait};
 use std::test::Fail;
 use std::thread::Threads;
-
-const EXIT: &str = r#"{"jsonrpc":"2.0","method":"exit"}"#;
 
 /// A call with these words over an empty folder, which reads these messages and tells its steps to the trace.
 fn told<R: Threads + Wait + Sync, T: Trace + Send>(
@@ -157,20 +157,24 @@ fn watched_by(
     Ok(seen)
 }
 
-/// Of two boxed watchers the first is told all steps of the session, the second the first three.
+/// Of three boxed watchers of a session with two workers the first is told all steps, the second the first one, the third the first three.
 #[test]
 fn boxed_watchers_are_told_the_steps(rt: HostRuntime) -> Result<(), Fail> {
     let alloc = rt.alloc();
     let boxes = Vec::new(alloc);
     let mut watchers = Watchers { boxes };
     let staying = watched_by(alloc, &mut watchers, 1000)?;
+    let leaving_at_once = watched_by(alloc, &mut watchers, 0)?;
     let leaving = watched_by(alloc, &mut watchers, 2)?;
     let held = MemTrace::new(alloc);
     let mut trace = Both { held, watchers };
-    told(&rt, alloc, &["lsp", "d"], &[EXIT], &mut trace)?;
+    let words = ["lsp", "--workers", "2", "d"];
+    let bodies = [INITIALIZE, OPEN, SHUTDOWN, EXIT];
+    told(&rt, alloc, &words, &bodies, &mut trace)?;
     let steps = trace.held.steps.as_slice();
-    assert!(rt; steps.len() >= 3);
+    assert!(rt; steps.len() >= 8);
     assert_eq!(rt; staying.load(Ordering::SeqCst), sum_of(steps));
+    assert_eq!(rt; leaving_at_once.load(Ordering::SeqCst), sum_of(&steps[..1]));
     assert_eq!(rt; leaving.load(Ordering::SeqCst), sum_of(&steps[..3]));
     Ok(())
 }

@@ -9,15 +9,15 @@ use std::sync::Wait;
 use std::test::Fail;
 use std::thread::Threads;
 
-const INITIALIZE: &str =
+pub(crate) const INITIALIZE: &str =
     r#"{"id":1,"jsonrpc":"2.0","method":"initialize","params":{"capabilities":{},"rootUri":"file:///p"}}"#;
 
-const OPEN: &str =
+pub(crate) const OPEN: &str =
     r##"{"jsonrpc":"2.0","method":"textDocument/didOpen","params":{"textDocument":{"uri":"file:///p/a.rb","languageId":"ruby","version":1,"text":"# typed: true\nx = T.let(\"a\", Integer)\n"}}}"##;
 
-const SHUTDOWN: &str = r#"{"id":2,"jsonrpc":"2.0","method":"shutdown"}"#;
+pub(crate) const SHUTDOWN: &str = r#"{"id":2,"jsonrpc":"2.0","method":"shutdown"}"#;
 
-const EXIT: &str = r#"{"jsonrpc":"2.0","method":"exit"}"#;
+pub(crate) const EXIT: &str = r#"{"jsonrpc":"2.0","method":"exit"}"#;
 
 const INITIALIZED: &str =
     r#"{"id":1,"jsonrpc":"2.0","result":{"capabilities":{"positionEncoding":"utf-16","textDocumentSync":{"change":2,"openClose":true,"save":{"includeText":false}}},"serverInfo":{"name":"srb"}}}"#;
@@ -381,33 +381,80 @@ fn input_that_breaks(rt: HostRuntime) -> Result<(), Fail> {
     Ok(())
 }
 
-/// The third write of a session fails.
+/// Each write of a session fails in turn: what was written before it stands.
 #[test]
 fn a_write_that_fails(rt: HostRuntime) -> Result<(), Fail> {
     let alloc = rt.alloc();
-    let input = frames_of(alloc, &[INITIALIZE, OPEN, SHUTDOWN, EXIT])?;
-    let source = source_of(input, Vec::new(alloc), Vec::new(alloc));
-    let sink = sink_of(alloc, vec![in alloc; 3u64; 1]?);
-    let files = files_of(alloc, &[])?;
-    let (status, written) = ended_on(&rt, alloc, files, source, sink)?;
-    assert_eq!(rt; status, 4);
-    let output = frames_of(alloc, &[INITIALIZED, LIST])?;
-    assert_eq!(rt; written.as_slice(), output.as_slice());
+    let written = [INITIALIZED, LIST, NULL];
+    for count in 0..3 {
+        let input = frames_of(alloc, &[INITIALIZE, OPEN, SHUTDOWN, EXIT])?;
+        let source = source_of(input, Vec::new(alloc), Vec::new(alloc));
+        let sink = sink_of(alloc, vec![in alloc; count as u64 + 1; 1]?);
+        let files = files_of(alloc, &[])?;
+        let (status, held) = ended_on(&rt, alloc, files, source, sink)?;
+        assert_eq!(rt; status, 4);
+        let output = frames_of(alloc, &written[..count])?;
+        assert_eq!(rt; held.as_slice(), output.as_slice());
+    }
     Ok(())
 }
 
-/// The second read of a session fails: what the first one gave is checked first.
+/// How many of these messages a source gave whole in its first so many bytes.
+fn given_whole(alloc: Global, bodies: &[&str], bytes: usize) -> Result<usize, AllocError> {
+    let mut count = 0;
+    for last in 0..bodies.len() {
+        if frames_of(alloc, &bodies[..=last])?.len() <= bytes {
+            count = last + 1;
+        }
+    }
+    Ok(count)
+}
+
+/// Each read of a session fails in turn, of at most 64 bytes: the messages that were given whole before it are answered and checked first.
 #[test]
 fn a_read_that_fails(rt: HostRuntime) -> Result<(), Fail> {
     let alloc = rt.alloc();
-    let input = frames_of(alloc, &[INITIALIZE, OPEN])?;
-    let source = source_of(input, Vec::new(alloc), vec![in alloc; 2u64; 1]?);
-    let sink = sink_of(alloc, Vec::new(alloc));
-    let files = files_of(alloc, &[])?;
-    let (status, written) = ended_on(&rt, alloc, files, source, sink)?;
-    assert_eq!(rt; status, 3);
-    let output = frames_of(alloc, &[INITIALIZED, LIST])?;
-    assert_eq!(rt; written.as_slice(), output.as_slice());
+    let bodies = [INITIALIZE, OPEN, SHUTDOWN, EXIT];
+    let written = [INITIALIZED, LIST, NULL];
+    let last = frames_of(alloc, &bodies)?.len().saturating_sub(1) / 64;
+    for reads in 0..=last {
+        let fail_at = vec![in alloc; (reads as u64).saturating_add(1); 1]?;
+        let source = source_of(frames_of(alloc, &bodies)?, vec![in alloc; 64; 1]?, fail_at);
+        let sink = sink_of(alloc, Vec::new(alloc));
+        let files = files_of(alloc, &[])?;
+        let (status, held) = ended_on(&rt, alloc, files, source, sink)?;
+        assert_eq!(rt; status, 3);
+        let count = given_whole(alloc, &bodies, reads.saturating_mul(64))?;
+        let output = frames_of(alloc, &written[..count.min(3)])?;
+        assert_eq!(rt; held.as_slice(), output.as_slice());
+    }
+    Ok(())
+}
+
+/// A file that is opened with one byte more than a file may have, and then changed to the empty text.
+#[test]
+fn a_text_that_is_too_large(rt: HostRuntime) -> Result<(), Fail> {
+    let alloc = rt.alloc();
+    let mut text = String::new(alloc);
+    for _ in 0..1_048_577 {
+        text.push('1')?;
+    }
+    let opened = format!(in alloc;
+        r#"{{"jsonrpc":"2.0","method":"textDocument/didOpen","params":{{"textDocument":{{"uri":"file:///p/a.rb","languageId":"ruby","version":1,"text":"{text}"}}}}}}"#
+    )?;
+    let emptied =
+        r#"{"jsonrpc":"2.0","method":"textDocument/didChange","params":{"textDocument":{"uri":"file:///p/a.rb","version":2},"contentChanges":[{"text":""}]}}"#;
+    let too_large =
+        r#"{"jsonrpc":"2.0","method":"textDocument/publishDiagnostics","params":{"diagnostics":[{"code":9002,"message":"file is larger than 1048576 bytes","range":{"end":{"character":0,"line":0},"start":{"character":0,"line":0}},"severity":1,"source":"srb"}],"epoch":1,"uri":"file:///p/a.rb"}}"#;
+    let bodies = [
+        (INITIALIZE, 0),
+        (opened.as_str(), 1),
+        (emptied, 2),
+        (SHUTDOWN, 3),
+        (EXIT, 4),
+    ];
+    let written = [INITIALIZED, too_large, NONE_IN_A_2, NULL];
+    assert!(rt; is_served_in_turns(&rt, alloc, &[], &bodies, 0, &written, 0)?);
     Ok(())
 }
 
@@ -462,15 +509,22 @@ fn as_many_bytes_as_there_may_be_and_one_more(rt: HostRuntime) -> Result<(), Fai
     Ok(())
 }
 
-/// The folder can't be listed, or its file can't be read.
+/// The folder of three files can't be listed, or one of them can't be read: no message is answered.
 #[test]
 fn a_folder_that_fails(rt: HostRuntime) -> Result<(), Fail> {
     let alloc = rt.alloc();
-    for call in [1u64, 2] {
+    for call in 1..5u64 {
         let mut files = Vec::new(alloc);
-        files.push((String::from_str(alloc, "a.rb")?, Vec::new(alloc)))?;
+        for path in ["a.rb", "b.rb", "c.rb"] {
+            files.push((String::from_str(alloc, path)?, Vec::new(alloc)))?;
+        }
         let files = MemFiles::new(files, vec![in alloc; call; 1]?);
-        assert_eq!(rt; begun(&rt, alloc, files)?, (3, 0));
+        let input = frames_of(alloc, &[INITIALIZE, EXIT])?;
+        let source = source_of(input, Vec::new(alloc), Vec::new(alloc));
+        let sink = sink_of(alloc, Vec::new(alloc));
+        let (status, held) = ended_on(&rt, alloc, files, source, sink)?;
+        assert_eq!(rt; status, 3);
+        assert_eq!(rt; held.len(), 0);
     }
     Ok(())
 }
