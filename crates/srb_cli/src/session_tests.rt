@@ -64,10 +64,11 @@ pub(crate) fn files_of(alloc: Global, files: &[(&str, &str)]) -> Result<MemFiles
     Ok(MemFiles::new(list, Vec::new(alloc)))
 }
 
-/// The status of a session over these, and what its sink holds then.
-fn ended_on<R: Threads + Wait + Sync>(
+/// The status of a call with these words over these, and what its sink holds then.
+fn ended_by<R: Threads + Wait + Sync>(
     rt: &R,
     alloc: Global,
+    words: &[&str],
     mut files: MemFiles,
     mut source: MemSource,
     mut sink: MemSink,
@@ -76,20 +77,35 @@ fn ended_on<R: Threads + Wait + Sync>(
     requires source { ⟦<MemSource as Source>⟧.faults source ≡ 0 }
     requires sink { ⟦<MemSink as Sink>⟧.faults sink ≡ 0 }
 {
-    let words = [
-        String::from_str(alloc, "lsp")?,
-        String::from_str(alloc, "d")?,
-    ];
+    let mut said = Vec::new(alloc);
+    for word in words {
+        said.push(String::from_str(alloc, word)?)?;
+    }
     let ended = run(
         rt,
         alloc,
-        &words,
+        said.as_slice(),
         &mut files,
         &mut source,
         &mut sink,
         &mut NoTrace,
     );
     Ok((ended.status, sink.held))
+}
+
+/// The status of a session over these, and what its sink holds then.
+fn ended_on<R: Threads + Wait + Sync>(
+    rt: &R,
+    alloc: Global,
+    files: MemFiles,
+    source: MemSource,
+    sink: MemSink,
+) -> Result<(u8, Vec<u8>), AllocError>
+    requires files { ⟦<MemFiles as Files>⟧.faults files ≡ 0 }
+    requires source { ⟦<MemSource as Source>⟧.faults source ≡ 0 }
+    requires sink { ⟦<MemSink as Sink>⟧.faults sink ≡ 0 }
+{
+    ended_by(rt, alloc, &["lsp", "d"], files, source, sink)
 }
 
 /// The status of a session over these files whose input is these bytes, and what it writes.
@@ -134,6 +150,26 @@ fn a_session_on_an_empty_folder(rt: HostRuntime) -> Result<(), Fail> {
     let written = [INITIALIZED, LIST, NULL];
     assert!(rt; is_served(&rt, rt.alloc(), &[], &bodies, &written, 0)?);
     assert_eq!(rt; NULL.len(), 38);
+    Ok(())
+}
+
+/// The same with no worker, one, two and sixteen.
+#[test]
+fn a_session_with_other_numbers_of_workers(rt: HostRuntime) -> Result<(), Fail> {
+    let alloc = rt.alloc();
+    let output = frames_of(alloc, &[INITIALIZED, LIST, NULL])?;
+    for workers in ["0", "1", "2", "16"] {
+        for pieces in [[].as_slice(), &[1u32]] {
+            let input = frames_of(alloc, &[INITIALIZE, OPEN, SHUTDOWN, EXIT])?;
+            let source = source_of(input, pieces.to_vec(alloc)?, Vec::new(alloc));
+            let sink = sink_of(alloc, Vec::new(alloc));
+            let files = files_of(alloc, &[])?;
+            let words = ["lsp", "--workers", workers, "d"];
+            let (status, held) = ended_by(&rt, alloc, &words, files, source, sink)?;
+            assert_eq!(rt; status, 0);
+            assert_eq!(rt; held.as_slice(), output.as_slice());
+        }
+    }
     Ok(())
 }
 
