@@ -115,7 +115,7 @@ enum Outcome {
     Later,
 }
 
-fn outcome(landed: &Landed) -> Outcome {
+fn what_came(landed: &Landed) -> Outcome {
     match landed {
         Landed::Shown(_, Out::List { items, epoch, .. }) => Outcome::Shown(items.len(), *epoch),
         Landed::Shown(..) | Landed::Quiet(_) => Outcome::Quiet,
@@ -138,10 +138,10 @@ fn land<L: Ledger>(
 {
     let item = item_of(rt, alloc, job, number, steps)?;
     let landed = core.land(alloc, item)?;
-    Ok(outcome(&landed))
+    Ok(what_came(&landed))
 }
 
-/// The core looks at the inbox and checks the next file itself. Answers whether that is this file, and its list has so many items.
+/// The core looks at the inbox and checks the next file itself. Answers whether it is this file, and this comes of it.
 fn checks<L: Ledger>(
     rt: &impl Abort,
     alloc: Global,
@@ -159,7 +159,7 @@ fn checks<L: Ledger>(
         Landed::Shown(Step::Work { path: worked, .. }, _) => worked.as_str() == path,
         _ => false,
     };
-    Ok(is_path && outcome(&landed) == wanted)
+    Ok(is_path && what_came(&landed) == wanted)
 }
 
 /// A file lands; the next waits until the inbox was looked at, and then until an edited file was checked, whose own errors are thrown away.
