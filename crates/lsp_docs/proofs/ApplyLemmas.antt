@@ -168,17 +168,17 @@ texts_rest agreed others cs (Err e) = Err e
 texts_rest agreed others cs (Ok new) = after_changes agreed others new cs
 
 pub changes_are : (d : Documents) (f : Path) (others : ℕ) → ((b : Bytes) → total_bytes (put_file f b d.project) ≡ others + length b)
-    → (cs : List Change) (text : List ℕ) → changes d f text cs ≡ deed_of d f (after_changes d.agreed others text cs)
+    → (cs : List Change) (text : List ℕ) → changes d f text cs ≡ deed_of d f (after_changes d.agreed.encoding others text cs)
 changes_are d f others totals [] text = refl
-changes_are d f others totals (c ∷ cs) text = by (after_change d.agreed text c) (λ new. changes_are d f others totals cs new)
+changes_are d f others totals (c ∷ cs) text = by (after_change d.agreed.encoding text c) (λ new. changes_are d f others totals cs new)
   where
-    by_size : (new : List ℕ) (b : Bool) → changes d f new cs ≡ deed_of d f (after_changes d.agreed others new cs)
+    by_size : (new : List ℕ) (b : Bool) → changes d f new cs ≡ deed_of d f (after_changes d.agreed.encoding others new cs)
         → changes_rest d f new cs (if b then Err (TooBig (sum_with others new)) else Ok (Deed.Edits (record { path = f; now = Some (encode_utf8_all new) }) d.opened))
         ≡ deed_of d f (texts_rest d.agreed others cs (if b then Err (TooBig (sum_with others new)) else Ok new))
     by_size new true rest = refl
     by_size new false rest = rest
 
-    by : (r : Result (List ℕ) DocEnd) → ((new : List ℕ) → changes d f new cs ≡ deed_of d f (after_changes d.agreed others new cs))
+    by : (r : Result (List ℕ) DocEnd) → ((new : List ℕ) → changes d f new cs ≡ deed_of d f (after_changes d.agreed.encoding others new cs))
         → changes_from d f cs r ≡ deed_of d f (texts_rest d.agreed others cs (sized_text others r))
     by (Err e) rest = refl
     by (Ok new) rest =
@@ -212,7 +212,7 @@ changes_start agreed rows i r text list at spelled =
 
 pub changes_done : (agreed : Agreed) (rows new : List Row) (i : ℕ) (r : Row) (text fresh : List ℕ) (list : List Change) (others : ℕ) → IsOpenRow rows i r text
     → chars (encode_utf8_all text) ≡ text → others + size_of (present_of r) ≡ total_bytes (project_of rows)
-    → after_changes agreed others text list ≡ Ok fresh → new ≡ slice_set rows i (opened_row r fresh)
+    → after_changes agreed.encoding others text list ≡ Ok fresh → new ≡ slice_set rows i (opened_row r fresh)
     → IsDoneFor (if_open (documents_of agreed rows) (changes_now (documents_of agreed rows) list) r.path) (documents_of agreed rows) (documents_of agreed new) (record { path = r.path; edit = true })
 changes_done agreed rows new i r text fresh list others at spelled sum after set =
     let now = opened_row r fresh in
@@ -228,7 +228,7 @@ changes_done agreed rows new i r text fresh list others at spelled sum after set
 
 pub changes_refused : (agreed : Agreed) (rows : List Row) (i : ℕ) (r : Row) (text : List ℕ) (list : List Change) (others : ℕ) (e : DocEnd) → IsOpenRow rows i r text
     → chars (encode_utf8_all text) ≡ text → others + size_of (present_of r) ≡ total_bytes (project_of rows)
-    → after_changes agreed others text list ≡ Err e
+    → after_changes agreed.encoding others text list ≡ Err e
     → if_open (documents_of agreed rows) (changes_now (documents_of agreed rows) list) r.path ≡ Err e
 changes_refused agreed rows i r text list others e at spelled sum after =
     let d = documents_of agreed rows in

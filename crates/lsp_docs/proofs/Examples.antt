@@ -4,6 +4,8 @@ use Rattle.std.specs.Prelude.{Option, Some, None, Result, Ok, Err, codes}
 use Rattle.std.specs.Str.{is_utf8, chars}
 use lib.Utf8.{encode}
 use Rattle.percent_encoding.specs.Percent.{percent_decode}
+use Rattle.srb_text.specs.declared.Encoding.{Encoding}
+use Rattle.srb_text.specs.declared.Encoding.TheVariants.{Utf8, Utf16, Utf32}
 use Rattle.srb_text.specs.declared.Pos.{Pos}
 use Rattle.lsp_msg.specs.declared.msg.Msg.{Msg}
 use Rattle.lsp_msg.specs.declared.msg.Msg.TheVariants.{Changed, Saved, Closed, Exit}
@@ -11,7 +13,7 @@ use Rattle.lsp_docs.specs.declared.doc_end.DocEnd.{DocEnd}
 use Rattle.lsp_docs.specs.declared.doc_end.DocEnd.TheVariants.{Foreign, Unknown, TooMany, Backwards}
 use Rattle.lsp_docs.specs.Paths.{Bytes}
 use Rattle.lsp_docs.specs.Uris.{root_of, uri_below, path_below}
-use Rattle.lsp_docs.specs.Documents.{placed, Documents, Deed, after_deed, opens, applied}
+use Rattle.lsp_docs.specs.Documents.{placed, Documents, Deed, after_deed, agreed_by, opens, applied}
 
 -- ---- URIs
 
@@ -62,7 +64,7 @@ a_uri = codes "file:///p/a.rb"
 
 abbrev open_smile : Documents
 open_smile = record {
-  agreed = record { root = codes "file:///p" };
+  agreed = record { root = codes "file:///p"; encoding = Utf16 };
   project = (codes "a.rb", smile) ∷ [];
   saved = [];
   opened = codes "a.rb" ∷ [];
@@ -85,6 +87,18 @@ after_pair = refl
 inside_pair : applied open_smile (one_change (at 0 2) (at 0 3) []) ≡ edited_to (codes "ab\n")
 unfolding percent_decode is_utf8 chars encode
 inside_pair = refl
+
+-- by bytes and by characters
+abbrev open_in : Encoding → Documents
+open_in encoding = record open_smile { agreed = record { root = codes "file:///p"; encoding = encoding } }
+
+by_bytes : applied (open_in Utf8) (one_change (at 0 5) (at 0 6) (codes "c")) ≡ edited_to (97 ∷ 240 ∷ 159 ∷ 152 ∷ 128 ∷ 99 ∷ 10 ∷ [])
+unfolding percent_decode is_utf8 chars encode
+by_bytes = refl
+
+by_characters : applied (open_in Utf32) (one_change (at 0 2) (at 0 3) (codes "c")) ≡ edited_to (97 ∷ 240 ∷ 159 ∷ 152 ∷ 128 ∷ 99 ∷ 10 ∷ [])
+unfolding percent_decode is_utf8 chars encode
+by_characters = refl
 
 past_the_line : applied open_smile (one_change (at 0 99) (at 0 99) (codes "z")) ≡ edited_to (97 ∷ 240 ∷ 159 ∷ 152 ∷ 128 ∷ 98 ∷ 122 ∷ 10 ∷ [])
 unfolding percent_decode is_utf8 chars encode
@@ -146,13 +160,31 @@ goes_away = refl
 
 -- ---- places
 
-placed_after_pair : placed (record { root = [] }) smile (record { span = record { start = 5; end = 6 }; number = 5002; text = [] })
+placed_after_pair : placed Utf16 smile (record { span = record { start = 5; end = 6 }; number = 5002; text = [] })
     ≡ record { start = at 0 3; end = at 0 4; number = 5002; text = [] }
 unfolding chars is_utf8 encode
 placed_after_pair = refl
 
+placed_by_bytes : placed Utf8 smile (record { span = record { start = 5; end = 6 }; number = 5002; text = [] })
+    ≡ record { start = at 0 5; end = at 0 6; number = 5002; text = [] }
+unfolding chars is_utf8 encode
+placed_by_bytes = refl
+
+placed_by_characters : placed Utf32 smile (record { span = record { start = 5; end = 6 }; number = 5002; text = [] })
+    ≡ record { start = at 0 2; end = at 0 3; number = 5002; text = [] }
+unfolding chars is_utf8 encode
+placed_by_characters = refl
+
+-- ---- what is agreed on
+
+first_known : agreed_by None (codes "latin1" ∷ codes "utf-32" ∷ codes "utf-16" ∷ []) ≡ record { root = codes "file://"; encoding = Utf32 }
+first_known = refl
+
+none_known : agreed_by None (codes "latin1" ∷ []) ≡ record { root = codes "file://"; encoding = Utf16 }
+none_known = refl
+
 -- the start of a file has a position also where the file is no text
-placed_at_start : placed (record { root = [] }) (255 ∷ []) (record { span = record { start = 0; end = 0 }; number = 9009; text = [] })
+placed_at_start : placed Utf16 (255 ∷ []) (record { span = record { start = 0; end = 0 }; number = 9009; text = [] })
     ≡ record { start = at 0 0; end = at 0 0; number = 9009; text = [] }
 unfolding chars is_utf8
 placed_at_start = refl

@@ -8,7 +8,8 @@ use Rattle.std.proofs.lemmas.Bool.{le-ltb, lt-ltb}
 use Rattle.std.proofs.lemmas.Str.{IsUtf8-from_is_utf8, is_utf8-from_IsUtf8, encodes-chars, chars_from_encodes}
 use Rattle.srb_text.specs.Edits.{edited}
 use Rattle.srb_text.specs.Laws.{EditsHaveSizes}
-use Rattle.srb_text.specs.Positions.{byte_len, len_utf16, offset_of, position_of}
+use Rattle.srb_text.specs.Positions.{byte_len, weight_of, offset_of, position_of}
+use Rattle.srb_text.specs.declared.Encoding.{Encoding}
 use Rattle.srb_text.specs.declared.Pos.{Pos}
 use Rattle.srb_text.proofs.SpellingLemmas.{length-encodes}
 use Rattle.srb_terms.specs.declared.diag.Diag.{Diag}
@@ -17,7 +18,7 @@ use Rattle.lsp_msg.specs.declared.placed.Placed.{Placed}
 use Rattle.lsp_docs.specs.declared.doc_end.DocEnd.{DocEnd}
 use Rattle.lsp_docs.specs.declared.doc_end.DocEnd.TheVariants.{Backwards, TooBig}
 use Rattle.lsp_docs.specs.Paths.{Bytes}
-use Rattle.lsp_docs.specs.Documents.{Agreed, after_change, between, placed, text_of, weight}
+use Rattle.lsp_docs.specs.Documents.{after_change, between, placed, text_of}
 use Rattle.srb_text.specs.Limits.{MOST_BYTES}
 use Rattle.lsp_docs.specs.Rows.{size_of}
 use Rattle.lsp_docs.specs.Changes.{after_changes, after_sized, sized_text, sum_with}
@@ -76,45 +77,45 @@ pub sized_big : (others : ℕ) (new : List ℕ) → MOST_BYTES < sum_with others
 sized_big others new big =
     ap (λ b. if b then Err (TooBig (sum_with others new)) else Ok new) (lt-ltb MOST_BYTES (sum_with others new) big)
 
-pub between_ok : (agreed : Agreed) (text : List ℕ) (from to : Pos) (new : List ℕ) → offset_of len_utf16 text from ≤ offset_of len_utf16 text to
-    → between agreed text from to new ≡ Ok (edited len_utf16 text from to new)
-between_ok agreed text from to new ordered =
-    ap (λ b. if b then Err (Backwards (offset_of len_utf16 text from) (offset_of len_utf16 text to)) else Ok (edited len_utf16 text from to new))
-    (le-ltb (offset_of len_utf16 text to) (offset_of len_utf16 text from) ordered)
+pub between_ok : (encoding : Encoding) (text : List ℕ) (from to : Pos) (new : List ℕ) → offset_of (weight_of encoding) text from ≤ offset_of (weight_of encoding) text to
+    → between encoding text from to new ≡ Ok (edited (weight_of encoding) text from to new)
+between_ok encoding text from to new ordered =
+    ap (λ b. if b then Err (Backwards (offset_of (weight_of encoding) text from) (offset_of (weight_of encoding) text to)) else Ok (edited (weight_of encoding) text from to new))
+    (le-ltb (offset_of (weight_of encoding) text to) (offset_of (weight_of encoding) text from) ordered)
 
 -- the bytes of all texts where the words stand in the place of a part
-pub range_sum : (text : List ℕ) (from to : Pos) (words : Bytes) (others len start end : ℕ) → EditsHaveSizes → IsUtf8 words
-    → start ≡ offset_of len_utf16 text from → end ≡ offset_of len_utf16 text to → start ≤ end → end ≤ len → len ≡ byte_len text
-    → others + (len - (end - start)) + length words ≡ sum_with others (edited len_utf16 text from to (chars words))
-range_sum text from to words others len start end law text_is from_is to_is ordered within len_is =
-    let size = law len_utf16 text from to (chars words) (omega (arith, from_is, to_is, ordered)) in
+pub range_sum : (encoding : Encoding) (text : List ℕ) (from to : Pos) (words : Bytes) (others len start end : ℕ) → EditsHaveSizes → IsUtf8 words
+    → start ≡ offset_of (weight_of encoding) text from → end ≡ offset_of (weight_of encoding) text to → start ≤ end → end ≤ len → len ≡ byte_len text
+    → others + (len - (end - start)) + length words ≡ sum_with others (edited (weight_of encoding) text from to (chars words))
+range_sum encoding text from to words others len start end law text_is from_is to_is ordered within len_is =
+    let size = law (weight_of encoding) text from to (chars words) (omega (arith, from_is, to_is, ordered)) in
     let new = sym (length-encodes (chars words)) ∙ spelled_size words text_is in
-    let whole = length-encodes (edited len_utf16 text from to (chars words)) in
+    let whole = length-encodes (edited (weight_of encoding) text from to (chars words)) in
     omega (arith, size, new, whole, from_is, to_is, ordered, within, len_is)
 
 -- ---- one change and more
-abbrev change_by : Agreed → List ℕ → Change → Option (Pos × Pos) → Result (List ℕ) DocEnd
-change_by agreed text c None = Ok (chars c.text)
-change_by agreed text c (Some part) = between agreed text part.0 part.1 (chars c.text)
+abbrev change_by : Encoding → List ℕ → Change → Option (Pos × Pos) → Result (List ℕ) DocEnd
+change_by encoding text c None = Ok (chars c.text)
+change_by encoding text c (Some part) = between encoding text part.0 part.1 (chars c.text)
 
-abbrev rest_of : Agreed → ℕ → List Change → Result (List ℕ) DocEnd → Result (List ℕ) DocEnd
-rest_of agreed others cs (Err e) = Err e
-rest_of agreed others cs (Ok new) = after_changes agreed others new cs
+abbrev rest_of : Encoding → ℕ → List Change → Result (List ℕ) DocEnd → Result (List ℕ) DocEnd
+rest_of encoding others cs (Err e) = Err e
+rest_of encoding others cs (Ok new) = after_changes encoding others new cs
 
-pub plain_change : (agreed : Agreed) (text : List ℕ) (c : Change) → c.range ≡ None → after_change agreed text c ≡ Ok (chars c.text)
-plain_change agreed text c is = ap (change_by agreed text c) is
+pub plain_change : (encoding : Encoding) (text : List ℕ) (c : Change) → c.range ≡ None → after_change encoding text c ≡ Ok (chars c.text)
+plain_change encoding text c is = ap (change_by encoding text c) is
 
-pub range_change : (agreed : Agreed) (text : List ℕ) (c : Change) (from to : Pos) → c.range ≡ Some (from, to)
-    → after_change agreed text c ≡ between agreed text from to (chars c.text)
-range_change agreed text c from to is = ap (change_by agreed text c) is
+pub range_change : (encoding : Encoding) (text : List ℕ) (c : Change) (from to : Pos) → c.range ≡ Some (from, to)
+    → after_change encoding text c ≡ between encoding text from to (chars c.text)
+range_change encoding text c from to is = ap (change_by encoding text c) is
 
-pub next_change : (agreed : Agreed) (others : ℕ) (text new : List ℕ) (c : Change) (cs : List Change) → after_sized agreed others text c ≡ Ok new
-    → after_changes agreed others text (c ∷ cs) ≡ after_changes agreed others new cs
-next_change agreed others text new c cs is = ap (rest_of agreed others cs) is
+pub next_change : (encoding : Encoding) (others : ℕ) (text new : List ℕ) (c : Change) (cs : List Change) → after_sized encoding others text c ≡ Ok new
+    → after_changes encoding others text (c ∷ cs) ≡ after_changes encoding others new cs
+next_change encoding others text new c cs is = ap (rest_of encoding others cs) is
 
-pub last_change : (agreed : Agreed) (others : ℕ) (text : List ℕ) (c : Change) (cs : List Change) (e : DocEnd) → after_sized agreed others text c ≡ Err e
-    → after_changes agreed others text (c ∷ cs) ≡ Err e
-last_change agreed others text c cs e is = ap (rest_of agreed others cs) is
+pub last_change : (encoding : Encoding) (others : ℕ) (text : List ℕ) (c : Change) (cs : List Change) (e : DocEnd) → after_sized encoding others text c ≡ Err e
+    → after_changes encoding others text (c ∷ cs) ≡ Err e
+last_change encoding others text c cs e is = ap (rest_of encoding others cs) is
 
 -- ---- one answer for another
 pub on_ok_map : {T E : Type 0} (r : Result T E) (P Q : Type 0) → (P → Q) → OnOk r P → OnOk r Q
@@ -135,15 +136,15 @@ copied_size (Some b) None n is small = cc
 copied_size (Some b) (Some bytes) n is small = let size = ap size_of is in omega (arith, size, small)
 
 -- ---- errors placed
-abbrev placed_by : Agreed → List ℕ → Diag → Placed
-placed_by agreed text d = record {
-  start = position_of (weight agreed) text d.span.start;
-  end = position_of (weight agreed) text d.span.end;
+abbrev placed_by : Encoding → List ℕ → Diag → Placed
+placed_by encoding text d = record {
+  start = position_of (weight_of encoding) text d.span.start;
+  end = position_of (weight_of encoding) text d.span.end;
   number = d.number;
   text = d.text;
 }
 
-pub placed_again : (agreed : Agreed) (bytes text : List ℕ) (errors : List Diag) → text ≡ text_of bytes
-    → map (placed agreed (encode_utf8_all text)) errors ≡ map (placed agreed bytes) errors
-placed_again agreed bytes text errors is =
-    ap (λ t. map (placed_by agreed t) errors) (ap (λ t. text_of (encode_utf8_all t)) is ∙ text_of_again bytes)
+pub placed_again : (encoding : Encoding) (bytes text : List ℕ) (errors : List Diag) → text ≡ text_of bytes
+    → map (placed encoding (encode_utf8_all text)) errors ≡ map (placed encoding bytes) errors
+placed_again encoding bytes text errors is =
+    ap (λ t. map (placed_by encoding t) errors) (ap (λ t. text_of (encode_utf8_all t)) is ∙ text_of_again bytes)

@@ -1,10 +1,12 @@
 -- Documents: the project as the client's messages change it, which paths are open, and what was saved.
 use Rattle.std.specs.Prelude.{◌≡◌, ◌≢◌, ℕ, ◌≤◌, true, false, not, ◌&&◌, nat_lt, nat_le, List, [], ◌∷◌, length, chars, encode_utf8_all, Option, Some, None, unwrap_or, is_some, Result, Ok, Err, if◌then◌else◌}
 use Rattle.std.specs.Str.{is_utf8}
-use Rattle.srb_text.specs.Positions.{len_utf16, offset_of, position_of}
+use Rattle.srb_text.specs.Positions.{offset_of, position_of, weight_of}
 use Rattle.srb_text.specs.Edits.{edited}
+use Rattle.srb_text.specs.declared.Encoding.{Encoding}
 use Rattle.srb_text.specs.declared.Pos.{Pos}
 use Rattle.srb_terms.specs.declared.diag.Diag.{Diag}
+use Rattle.lsp_msg.specs.Encodings.{chosen}
 use Rattle.lsp_msg.specs.declared.change.Change.{Change}
 use Rattle.lsp_msg.specs.declared.placed.Placed.{Placed}
 use Rattle.lsp_msg.specs.declared.msg.Msg.{Msg}
@@ -22,14 +24,12 @@ use Rattle.srb_text.specs.Limits.{MOST_BYTES}
 pub record Agreed : Type 0 where
   -- the URI below which the project is
   pub root : List ℕ
+  -- the units of positions
+  pub encoding : Encoding
 
 -- what the two agree on where the client names this root and lists these position encodings
 abbrev pub agreed_by : Option (List ℕ) → List (List ℕ) → Agreed
-agreed_by root encodings = record { root = root_of root }
-
--- what a character counts in a position: its UTF-16 units
-abbrev pub weight : Agreed → ℕ → ℕ
-weight agreed = len_utf16
+agreed_by root encodings = record { root = root_of root; encoding = chosen encodings }
 
 -- the URI that is written for a path
 abbrev pub uri_of : Agreed → Path → List ℕ
@@ -43,11 +43,11 @@ path_of agreed uri = path_below agreed.root uri
 abbrev pub text_of : Bytes → List ℕ
 text_of bytes = if is_utf8 bytes then chars bytes else []
 
--- an error of a file with these bytes, its place turned into positions
-abbrev pub placed : Agreed → Bytes → Diag → Placed
-placed agreed bytes d = record {
-  start = position_of (weight agreed) (text_of bytes) d.span.start;
-  end = position_of (weight agreed) (text_of bytes) d.span.end;
+-- an error of a file with these bytes, its place turned into positions of the encoding
+abbrev pub placed : Encoding → Bytes → Diag → Placed
+placed encoding bytes d = record {
+  start = position_of (weight_of encoding) (text_of bytes) d.span.start;
+  end = position_of (weight_of encoding) (text_of bytes) d.span.end;
   number = d.number;
   text = d.text;
 }
@@ -93,24 +93,24 @@ opens d text f =
     else sized d (record { path = f; now = Some text }) (with_path f d.opened)
 
 -- the text in which `new` stands between two offsets, unless the first is after the second
-abbrev pub between : Agreed → List ℕ → Pos → Pos → List ℕ → Result (List ℕ) DocEnd
-between agreed text from to new =
-    if nat_lt (offset_of (weight agreed) text to) (offset_of (weight agreed) text from)
-    then Err (Backwards (offset_of (weight agreed) text from) (offset_of (weight agreed) text to))
-    else Ok (edited (weight agreed) text from to new)
+abbrev pub between : Encoding → List ℕ → Pos → Pos → List ℕ → Result (List ℕ) DocEnd
+between encoding text from to new =
+    if nat_lt (offset_of (weight_of encoding) text to) (offset_of (weight_of encoding) text from)
+    then Err (Backwards (offset_of (weight_of encoding) text from) (offset_of (weight_of encoding) text to))
+    else Ok (edited (weight_of encoding) text from to new)
 
 -- the text after one change; without a range the new text takes the place of the whole
-abbrev pub after_change : Agreed → List ℕ → Change → Result (List ℕ) DocEnd
-after_change agreed text c = elim c.range [
+abbrev pub after_change : Encoding → List ℕ → Change → Result (List ℕ) DocEnd
+after_change encoding text c = elim c.range [
   | None ↦ Ok (chars c.text)
-  | Some part ↦ between agreed text part.0 part.1 (chars c.text)
+  | Some part ↦ between encoding text part.0 part.1 (chars c.text)
 ]
 
 -- `didChange`, from this text on: the changes are applied in order, and each is refused by its range, and
 -- then by the bytes that it would leave
 abbrev pub changes : Documents → Path → List ℕ → List Change → Result Deed DocEnd
 changes d f text [] = Ok (Edits (record { path = f; now = Some (encode_utf8_all text) }) d.opened)
-changes d f text (c ∷ cs) = elim (after_change d.agreed text c) [
+changes d f text (c ∷ cs) = elim (after_change d.agreed.encoding text c) [
   | Err e ↦ Err e
   | Ok new ↦ elim (sized d (record { path = f; now = Some (encode_utf8_all new) }) d.opened) [
     | Err e ↦ Err e

@@ -7,6 +7,7 @@ use Rattle.lsp_docs.specs.declared.doc_end.DocEnd.TheVariants.{NoMemory}
 use Rattle.lsp_docs.specs.declared.row.Row.{Row}
 use Rattle.lsp_docs.specs.Paths.{Path, Bytes}
 use Rattle.lsp_docs.specs.Projects.{Project, paths_of}
+use Rattle.srb_text.specs.declared.Encoding.{Encoding}
 use Rattle.lsp_docs.specs.Documents.{Agreed, Documents, Deed, IsDoneFor}
 
 -- the present bytes of a row: those of its text where it is open, else those saved last
@@ -79,6 +80,10 @@ pub record IsPlaceOf (f : Path) (rows : List Row) (i : ℕ) : Type 0 where
   pub after : IsAfterRows f (take i rows)
   pub before : IsBeforeRows f (drop i rows)
 
+-- this root and this encoding were agreed on
+abbrev pub agreed_on : List ℕ → Encoding → Agreed
+agreed_on root encoding = record { root = root; encoding = encoding }
+
 -- what is done to documents, which may be refused
 abbrev pub Rule : Type 0
 Rule = Documents → Result Deed DocEnd
@@ -88,6 +93,15 @@ abbrev pub IsDoneBy : Rule → Path → Bool → List Row → List Row → Type 
 IsDoneBy rule f edit old new =
     (agreed : Agreed) → IsDoneFor (rule (documents_of agreed old)) (documents_of agreed old) (documents_of agreed new) (record { path = f; edit = edit })
 
+-- The same where this encoding was agreed on.
+abbrev pub IsDoneIn : Encoding → Rule → Path → Bool → List Row → List Row → Type 0
+IsDoneIn encoding rule f edit old new =
+    (root : List ℕ) → IsDoneFor (rule (documents_of (agreed_on root encoding) old)) (documents_of (agreed_on root encoding) old) (documents_of (agreed_on root encoding) new) (record { path = f; edit = edit })
+
 -- the rule refuses for this, or there was no memory
 abbrev pub IsRefusedBy : Rule → List Row → DocEnd → Type 0
 IsRefusedBy rule rows e = e ≢ NoMemory → (agreed : Agreed) → rule (documents_of agreed rows) ≡ Err e
+
+-- the same where this encoding was agreed on
+abbrev pub IsRefusedIn : Encoding → Rule → List Row → DocEnd → Type 0
+IsRefusedIn encoding rule rows e = e ≢ NoMemory → (root : List ℕ) → rule (documents_of (agreed_on root encoding) rows) ≡ Err e

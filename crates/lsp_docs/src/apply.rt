@@ -1,14 +1,14 @@
 //! What messages do to the rows of their paths.
 ghost use Rattle.std.specs.Prelude.{◌≡◌, Ok, true, false, IfErr, OnOk, OnErr};
 ghost use Rattle.lsp_docs.specs.Documents.{Saves, changes_now, closes, if_open, opens};
-ghost use Rattle.lsp_docs.specs.Rows.{IsDoneBy, IsPlaceOf, IsRefusedBy};
+ghost use Rattle.lsp_docs.specs.Rows.{IsDoneBy, IsDoneIn, IsPlaceOf, IsRefusedBy, IsRefusedIn};
 
 use crate::DocEnd;
 use crate::changes::{changed, held_text};
 use crate::rows::{Rows, held_bytes};
 use lsp_msg::Change;
 use srb_terms::{Name, Words};
-use srb_text::BYTES_LIMIT;
+use srb_text::{BYTES_LIMIT, Encoding};
 use std::alloc::Global;
 
 /// The most files that a project may have.
@@ -54,15 +54,21 @@ fn open_new(
 }
 
 /// `didChange`: the changes are applied to the present text, in order.
-pub fn change(alloc: Global, rows: &mut Rows, path: &Name, changes: &[Change]) -> Result<(), DocEnd>
-    ensures done { OnOk result (IsDoneBy (λ d. if_open d (changes_now d changes.now) path.now) path.now true rows.old rows.new) }
-    ensures refused { IfErr result (IsRefusedBy (λ d. if_open d (changes_now d changes.now) path.now) rows.old) }
+pub fn change(
+    alloc: Global,
+    rows: &mut Rows,
+    path: &Name,
+    changes: &[Change],
+    encoding: Encoding,
+) -> Result<(), DocEnd>
+    ensures done { OnOk result (IsDoneIn encoding (λ d. if_open d (changes_now d changes.now) path.now) path.now true rows.old rows.new) }
+    ensures refused { IfErr result (IsRefusedIn encoding (λ d. if_open d (changes_now d changes.now) path.now) rows.old) }
     ensures unchanged { OnErr result (rows.new ≡ rows.old) }
 {
     let Some((index, text)) = rows.find_open(path) else {
         return Err(DocEnd::Unknown);
     };
-    let text = changed(alloc, text, rows.others(index), changes)?;
+    let text = changed(alloc, text, rows.others(index), changes, encoding)?;
     rows.open(index, text);
     Ok(())
 }

@@ -4,13 +4,15 @@ ghost use Rattle.std.specs.Option.{option_copied};
 ghost use Rattle.srb_terms.specs.Projects.{bytes_at};
 ghost use Rattle.lsp_docs.specs.declared.doc_end.DocEnd.TheVariants.{Foreign, NoMemory};
 ghost use Rattle.lsp_docs.specs.Projects.{paths_of, total_bytes};
-ghost use Rattle.lsp_docs.specs.Documents.{MOST_FILES, AreDocuments, IsAccepted, IsDoneFor, IsRefused, Saves, agreed_by, applied, changes_now, closes, no_documents, opens, path_of, placed, uri_of, where_named, where_open};
+ghost use Rattle.lsp_docs.specs.Documents.{MOST_FILES, AreDocuments, IsAccepted, IsDoneFor, IsRefused, Saves, applied, changes_now, closes, no_documents, opens, path_of, placed, uri_of, where_named, where_open};
+ghost use Rattle.lsp_docs.specs.Uris.{root_of};
 ghost use Rattle.srb_text.specs.Limits.{MOST_BYTES};
 
 use crate::rows::Rows;
 use crate::{Applied, DocEnd, apply, places, texts, uris};
 use lsp_msg::{Change, Msg, Placed};
 use srb_terms::{Diag, Items, Name, NoMemory, Project, Words};
+use srb_text::Encoding;
 use std::alloc::Global;
 use std::marker::Model;
 
@@ -19,6 +21,7 @@ use std::marker::Model;
 #[derive(Drop)]
 pub struct Docs {
     root: Words,
+    encoding: Encoding,
     rows: Rows,
 }
 
@@ -28,11 +31,11 @@ impl Model for Docs {
 
     ghost Value = { Documents };
 
-    ghost view = { λ d. documents_of (record { root = d.root }) d.rows };
+    ghost view = { λ d. documents_of (record { root = d.root; encoding = d.encoding }) d.rows };
 }
 
 impl Docs {
-    /// The documents before any message. The project has at most 4,096 files, and their texts together at most
+    /// The documents before any message: positions count UTF-16 units. The project has at most 4,096 files, and their texts together at most
     /// 16,777,216 bytes.
     pub fn new(alloc: Global, files: Project) -> Result<Docs, NoMemory>
         requires count { length files ≤ MOST_FILES }
@@ -41,6 +44,7 @@ impl Docs {
     {
         Ok(Docs {
             root: uris::root_of(alloc, None)?,
+            encoding: Encoding::Utf16,
             rows: Rows::new(alloc, files)?,
         })
     }
@@ -51,17 +55,32 @@ impl Docs {
     {
         Ok(Docs {
             root: self.root.copied()?,
+            encoding: self.encoding,
             rows: self.rows.copied(alloc)?,
         })
     }
 
     /// Settles the root. After an error the documents are as they were.
     pub fn set_root(&mut self, alloc: Global, root: Option<&Words>) -> Result<(), NoMemory>
-        ensures ok { OnOk result (self.new ≡ record self.old { agreed = agreed_by (option_copied root.entry) [] }) }
+        ensures ok { OnOk result (self.new ≡ record self.old { agreed = record self.old.agreed { root = root_of (option_copied root.entry) } }) }
         ensures err { OnErr result (self.new ≡ self.old) }
     {
         self.root = uris::root_of(alloc, root)?;
         Ok(())
+    }
+
+    /// Settles the units of positions.
+    pub fn set_encoding(&mut self, encoding: Encoding)
+        ensures { self.new ≡ record self.old { agreed = record self.old.agreed { encoding = encoding } } }
+    {
+        self.encoding = encoding;
+    }
+
+    /// The units of positions.
+    pub fn encoding(&self) -> Encoding
+        ensures { result ≡ self.now.agreed.encoding }
+    {
+        self.encoding
     }
 
     /// Does what a message about a document does, or says why it is refused: the first refusal that fits. After an
@@ -106,16 +125,16 @@ impl Docs {
         path: &Name,
         errors: &[Diag],
     ) -> Result<Items<Placed>, NoMemory>
-        ensures { IfOk result (λ list. list ≡ map (placed self.now.agreed (unwrap_or (bytes_at path.now self.now.project) [])) errors.now) }
+        ensures { IfOk result (λ list. list ≡ map (placed self.now.agreed.encoding (unwrap_or (bytes_at path.now self.now.project) [])) errors.now) }
     {
         if errors.is_empty() {
             return Ok(Items::new(alloc));
         }
         match self.rows.find_open(path) {
-            Some((_, text)) => places::placed(alloc, text, errors),
+            Some((_, text)) => places::placed(alloc, text, errors, self.encoding),
             None => {
                 let text = texts::text_of(alloc, self.bytes(path).unwrap_or(&[]))?;
-                places::placed(alloc, &text, errors)
+                places::placed(alloc, &text, errors, self.encoding)
             }
         }
     }
@@ -170,7 +189,7 @@ impl Docs {
         ensures unchanged { OnErr result (self.new ≡ self.old) }
     {
         let path = self.named(alloc, uri)?;
-        apply::change(alloc, &mut self.rows, &path, changes)?;
+        apply::change(alloc, &mut self.rows, &path, changes, self.encoding)?;
         Ok(Applied { path, edit: true })
     }
 

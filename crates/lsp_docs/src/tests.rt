@@ -1,7 +1,7 @@
 use crate::{Applied, DocEnd, Docs};
 use lsp_msg::{Change, Msg};
 use srb_terms::{Diag, Items, Name, Project, Span, Words};
-use srb_text::Pos;
+use srb_text::{Encoding, Pos};
 use std::alloc::{AllocError, Global};
 use std::test::Fail;
 
@@ -117,6 +117,36 @@ fn edits_by_utf16_units(rt: HostRuntime) -> Result<(), Fail> {
         };
         let told = edit(&mut docs, alloc, from, to, text)?;
         assert!(rt; told.as_str() == *outcome);
+        assert!(rt; shown(&docs, alloc, "a.rb")?.as_str() == *now);
+    }
+    Ok(())
+}
+
+// An encoding, the places of a change of `a😀b` and a line feed, its text, and the text then.
+const OTHER_EDITS: &[(Encoding, u32, u32, &str, &str)] = &[
+    (Encoding::Utf8, 5, 6, "c", "a😀c\n"),
+    (Encoding::Utf8, 3, 5, "", "ab\n"),
+    (Encoding::Utf32, 2, 3, "c", "a😀c\n"),
+    (Encoding::Utf32, 1, 2, "", "ab\n"),
+];
+
+#[test]
+fn edits_by_what_was_agreed_on(rt: HostRuntime) -> Result<(), Fail> {
+    let alloc = rt.alloc();
+    for (encoding, unit, end_unit, text, now) in OTHER_EDITS {
+        let mut docs = rooted(alloc, "file:///p")?;
+        docs.set_encoding(*encoding);
+        step(&mut docs, alloc, "open", A, "a😀b\n")?;
+        let from = Pos {
+            line: 0,
+            unit: *unit,
+        };
+        let to = Pos {
+            line: 0,
+            unit: *end_unit,
+        };
+        let told = edit(&mut docs, alloc, from, to, text)?;
+        assert!(rt; told.as_str() == A_EDITED);
         assert!(rt; shown(&docs, alloc, "a.rb")?.as_str() == *now);
     }
     Ok(())
@@ -280,6 +310,24 @@ fn places_errors(rt: HostRuntime) -> Result<(), Fail> {
     for (bytes, start, end, found) in PLACES {
         let docs = one_file(alloc, bytes)?;
         assert!(rt; places(&docs, alloc, *start, *end)?.as_str() == *found);
+    }
+    Ok(())
+}
+
+// An encoding, and the places of the error that stands on the `b` of `a😀b`.
+const OTHER_PLACES: &[(Encoding, &str)] = &[
+    (Encoding::Utf8, "0:5 0:6"),
+    (Encoding::Utf16, "0:3 0:4"),
+    (Encoding::Utf32, "0:2 0:3"),
+];
+
+#[test]
+fn places_errors_by_what_was_agreed_on(rt: HostRuntime) -> Result<(), Fail> {
+    let alloc = rt.alloc();
+    for (encoding, found) in OTHER_PLACES {
+        let mut docs = one_file(alloc, "a😀b\n".as_bytes())?;
+        docs.set_encoding(*encoding);
+        assert!(rt; places(&docs, alloc, 5, 6)?.as_str() == *found);
     }
     Ok(())
 }

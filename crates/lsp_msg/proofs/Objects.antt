@@ -31,7 +31,7 @@ items_have_no_float (placed ∷ items) = items_have_no_float items
 -- no object has a float
 pub object_has_no_float : (out : Out) → has_float (object_of out) ≡ false
 unfolding object_of error_object result_message error_message notification sync_options capabilities initialize_result log_params list_params
-object_has_no_float (Initialized id) = rw (id_has_no_float id)
+object_has_no_float (Initialized id encoding) = rw (id_has_no_float id)
 object_has_no_float (Null id) = rw (id_has_no_float id)
 object_has_no_float (Error id code) = rw (integer_is_no_float code, optional_id_has_no_float id)
 object_has_no_float (Log method reason) = refl
@@ -53,7 +53,7 @@ items_are_shallow (placed ∷ items) = let rest = items_are_shallow items in ome
 -- no object is deeper than what is read back
 pub object_is_shallow : (out : Out) → depth (object_of out) ≤ 127
 unfolding object_of error_object result_message error_message notification sync_options capabilities initialize_result log_params list_params
-object_is_shallow (Initialized id) = rw (id_is_flat id) (omega arith)
+object_is_shallow (Initialized id encoding) = rw (id_is_flat id) (omega arith)
 object_is_shallow (Null id) = rw (id_is_flat id) (omega arith)
 object_is_shallow (Error id code) = rw (optional_id_is_flat id) (omega arith)
 object_is_shallow (Log method reason) = omega arith

@@ -1,4 +1,5 @@
 pub mod ErrorCodes
 pub mod Params
+pub mod Encodings
 pub mod Decoded
 pub mod Written

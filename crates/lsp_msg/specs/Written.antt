@@ -6,6 +6,7 @@ use Rattle.serde_json.specs.Data.{Data, null, boolean, number, string, array, ob
 use Rattle.serde_json.specs.Find.{of_integer}
 use Rattle.serde_json.specs.View.{items_of}
 use Rattle.serde_json.specs.Written.{compact_text}
+use Rattle.srb_text.specs.declared.Encoding.{Encoding}
 use Rattle.srb_text.specs.declared.Pos.{Pos}
 use Rattle.lsp_msg.specs.declared.id.Id.{Id}
 use Rattle.lsp_msg.specs.declared.id.Id.TheVariants.{Number, Text}
@@ -14,6 +15,7 @@ use Rattle.lsp_msg.specs.declared.out.Out.TheVariants.{Initialized, Null, Error,
 use Rattle.lsp_msg.specs.declared.placed.Placed.{Placed}
 use Rattle.lsp_msg.specs.declared.reason.Reason.{Reason}
 use Rattle.lsp_msg.specs.declared.reason.Reason.TheVariants.{NotOpen, Backwards, TooMany, TooBig, NotInProject, InvalidParams}
+use Rattle.lsp_msg.specs.Encodings.{encoding_name}
 use Rattle.lsp_msg.specs.ErrorCodes.{parse_error, method_not_found, invalid_params, server_not_initialized}
 
 -- a text, and a whole number from 0 on
@@ -77,14 +79,15 @@ sync_options =
     (member (codes "openClose") (boolean true)
     (member (codes "save") (object (member (codes "includeText") (boolean false) no_members)) no_members)))
 
-unfoldable pub capabilities : Data
-capabilities =
-    object (member (codes "positionEncoding") (text (codes "utf-16"))
+-- what the server can do, and the encoding of its positions
+unfoldable pub capabilities : Encoding → Data
+capabilities encoding =
+    object (member (codes "positionEncoding") (text (encoding_name encoding))
     (member (codes "textDocumentSync") sync_options no_members))
 
-unfoldable pub initialize_result : Data
-initialize_result =
-    object (member (codes "capabilities") capabilities
+unfoldable pub initialize_result : Encoding → Data
+initialize_result encoding =
+    object (member (codes "capabilities") (capabilities encoding)
     (member (codes "serverInfo") (object (member (codes "name") (text (codes "srb")) no_members)) no_members))
 
 -- ---- log messages (LSP 3.17, "LogMessageParams")
@@ -132,7 +135,7 @@ list_params uri epoch items =
 
 -- the object of a message
 unfoldable pub object_of : Out → Data
-object_of (Initialized id) = result_message (id_data id) initialize_result
+object_of (Initialized id encoding) = result_message (id_data id) (initialize_result encoding)
 object_of (Null id) = result_message (id_data id) null
 object_of (Error id code) = error_message (optional_id id) (error_object code)
 object_of (Log method reason) = notification (codes "window/logMessage") (log_params (log_text method reason))

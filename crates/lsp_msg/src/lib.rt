@@ -12,6 +12,7 @@
 mod change;
 #[cfg(test)]
 mod copy_tests;
+mod encodings;
 mod error_code;
 mod id;
 mod msg;
@@ -25,6 +26,7 @@ mod tests;
 mod writing;
 
 pub use change::Change;
+pub use encodings::{chosen_encoding, encoding_name};
 pub use error_code::{
     INVALID_PARAMS, INVALID_REQUEST, METHOD_NOT_FOUND, PARSE_ERROR, SERVER_NOT_INITIALIZED,
 };

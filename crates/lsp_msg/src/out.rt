@@ -1,12 +1,14 @@
 use crate::{Id, Placed, Reason};
 use srb_terms::{Items, Words};
+use srb_text::Encoding;
 
 /// What the server says: one message, to be written as the body of a frame.
 #[derive(Debug, Drop)]
 pub enum Out {
-    /// The reply to the accepted `initialize`.
+    /// The reply to the accepted `initialize`, with the encoding of the session's positions.
     Initialized {
         id: Id,
+        encoding: Encoding,
     },
     /// The reply to the accepted `shutdown`.
     Null {

@@ -1,6 +1,6 @@
-use crate::{Id, Out, Placed, Reason, decode, encode};
+use crate::{Id, Out, Placed, Reason, chosen_encoding, decode, encode};
 use srb_terms::{Items, Words};
-use srb_text::Pos;
+use srb_text::{Encoding, Pos};
 use std::alloc::{AllocError, Global};
 use std::process::Abort;
 use std::test::Fail;
@@ -337,14 +337,50 @@ fn written(rt: &impl Abort, alloc: Global, out: Out, body: &str) -> Result<(), A
 const INITIALIZED: &str =
     r#"{"id":1,"jsonrpc":"2.0","result":{"capabilities":{"positionEncoding":"utf-16","textDocumentSync":{"change":2,"openClose":true,"save":{"includeText":false}}},"serverInfo":{"name":"srb"}}}"#;
 
+const INITIALIZED_BY_BYTES: &str =
+    r#"{"id":1,"jsonrpc":"2.0","result":{"capabilities":{"positionEncoding":"utf-8","textDocumentSync":{"change":2,"openClose":true,"save":{"includeText":false}}},"serverInfo":{"name":"srb"}}}"#;
+
+// The names that a client lists, and the encoding that is taken.
+const CHOICES: &[(&[&str], Encoding)] = &[
+    (&[], Encoding::Utf16),
+    (&["latin1"], Encoding::Utf16),
+    (&["utf-32", "utf-16"], Encoding::Utf32),
+    (&["utf-16", "utf-8"], Encoding::Utf16),
+    (&["UTF-8", "utf-7", "utf-8"], Encoding::Utf8),
+];
+
+#[test]
+fn choices(rt: HostRuntime) -> Result<(), Fail> {
+    for (listed, encoding) in CHOICES {
+        let mut names = Items::new(rt.alloc());
+        for name in *listed {
+            names.push(Words::from_str(rt.alloc(), name)?)?;
+        }
+        assert_eq!(rt; chosen_encoding(names.as_slice()), *encoding);
+    }
+    Ok(())
+}
+
 #[test]
 fn results(rt: HostRuntime) -> Result<(), Fail> {
     let null = r#"{"id":2,"jsonrpc":"2.0","result":null}"#;
     written(
         &rt,
         rt.alloc(),
-        Out::Initialized { id: Id::Number(1) },
+        Out::Initialized {
+            id: Id::Number(1),
+            encoding: Encoding::Utf16,
+        },
         INITIALIZED,
+    )?;
+    written(
+        &rt,
+        rt.alloc(),
+        Out::Initialized {
+            id: Id::Number(1),
+            encoding: Encoding::Utf8,
+        },
+        INITIALIZED_BY_BYTES,
     )?;
     written(&rt, rt.alloc(), Out::Null { id: Id::Number(2) }, null)?;
     Ok(())

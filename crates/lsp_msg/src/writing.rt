@@ -4,12 +4,13 @@ ghost use Rattle.serde_json.specs.Read.{read};
 ghost use Rattle.serde_json.specs.View.{view, items_of};
 ghost use Rattle.lsp_msg.specs.Written.{id_data, optional_id, error_text, error_object, result_message, error_message, notification, sync_options, capabilities, initialize_result, reason_text, log_text, log_params, position_object, range_object, item_object, list_params, object_of, body_of};
 
+use crate::encodings::encoding_name;
 use crate::{
     INVALID_PARAMS, Id, METHOD_NOT_FOUND, Out, PARSE_ERROR, Placed, Reason, SERVER_NOT_INITIALIZED,
 };
 use serde_json::{Value, json};
 use srb_terms::{NoMemory, Words};
-use srb_text::Pos;
+use srb_text::{Encoding, Pos};
 use std::alloc::Global;
 
 /// The body of a frame that says `out`: its JSON in UTF-8, without blanks, with the members of each object in the byte
@@ -29,9 +30,9 @@ fn object(alloc: Global, out: &Out) -> Result<Value, NoMemory>
     ensures { IfOk result (λ value. view value ≡ object_of out.now) }
 {
     match out {
-        Out::Initialized { id } => {
+        Out::Initialized { id, encoding } => {
             let id = id_value(alloc, id)?;
-            result_message(alloc, id, initialize_result(alloc)?)
+            result_message(alloc, id, initialize_result(alloc, *encoding)?)
         }
         Out::Null { id } => result_message(alloc, id_value(alloc, id)?, Value::Null),
         Out::Error { id, code } => {
@@ -123,18 +124,18 @@ fn sync_options(alloc: Global) -> Result<Value, NoMemory>
 }
 
 #[tactic(auto, unfolding(crate::specs::Written::capabilities))]
-fn capabilities(alloc: Global) -> Result<Value, NoMemory>
-    ensures { IfOk result (λ value. view value ≡ capabilities) }
+fn capabilities(alloc: Global, encoding: Encoding) -> Result<Value, NoMemory>
+    ensures { IfOk result (λ value. view value ≡ capabilities encoding) }
 {
     let sync = sync_options(alloc)?;
-    json!(in alloc; {"positionEncoding": "utf-16", "textDocumentSync": sync})
+    json!(in alloc; {"positionEncoding": encoding_name(encoding), "textDocumentSync": sync})
 }
 
 #[tactic(auto, unfolding(crate::specs::Written::initialize_result))]
-fn initialize_result(alloc: Global) -> Result<Value, NoMemory>
-    ensures { IfOk result (λ value. view value ≡ initialize_result) }
+fn initialize_result(alloc: Global, encoding: Encoding) -> Result<Value, NoMemory>
+    ensures { IfOk result (λ value. view value ≡ initialize_result encoding) }
 {
-    let capabilities = capabilities(alloc)?;
+    let capabilities = capabilities(alloc, encoding)?;
     json!(in alloc; {"capabilities": capabilities, "serverInfo": {"name": "srb"}})
 }
 

@@ -464,7 +464,7 @@ worked_fewer d phase rows left epoch stale seen owing ended row list core order 
 
 -- the message of a file that was worked on, if it is to be written
 abbrev pub out_for : Documents → Path → ℕ → List Diag → Bool → Option Out
-out_for d f epoch list true = Some (out.List (uri_of d.agreed f) epoch (map (placed d.agreed (unwrap_or (bytes_at f d.project) [])) list))
+out_for d f epoch list true = Some (out.List (uri_of d.agreed f) epoch (map (placed d.agreed.encoding (unwrap_or (bytes_at f d.project) [])) list))
 out_for d f epoch list false = None
 
 -- the rows and the mark after a file was worked on make the machine's step

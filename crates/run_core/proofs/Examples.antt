@@ -6,6 +6,7 @@ use lib.Utf8.{encode}
 use Rattle.percent_encoding.specs.Percent.{percent_decode}
 use Rattle.srb_terms.specs.declared.diag.Diag.{Diag}
 use Rattle.srb_terms.specs.Projects.{bytes_at}
+use Rattle.srb_text.specs.declared.Encoding.TheVariants.{Utf8, Utf16, Utf32}
 use Rattle.lsp_msg.specs.declared.id.Id.TheVariants as id
 use Rattle.lsp_msg.specs.declared.msg.Msg.{Msg as Message}
 use Rattle.lsp_msg.specs.declared.msg.Msg.TheVariants as msg
@@ -93,7 +94,7 @@ first_session =
     ∷ take shut ∷ Idle ∷ take msg.Exit ∷ end ∷ Idle ∷ []
 
 first_session_writes : outs toy [] first_session ≡
-    out.Initialized (id.Number (pos 1))
+    out.Initialized (id.Number (pos 1)) Utf16
     ∷ out.List (codes "file:///p/a.rb") 1 (placed_here (codes "x") ∷ [])
     ∷ out.Null (id.Number (pos 2)) ∷ []
 unfolding percent_decode is_utf8 chars encode
@@ -232,7 +233,7 @@ changed_between_runs = (
 )
 
 changed_between_writes : outs toy files_with_y changed_between ≡
-    out.Initialized (id.Number (pos 1))
+    out.Initialized (id.Number (pos 1)) Utf16
     ∷ out.List (codes "file:///p/a.rb") 1 []
     ∷ out.List (codes "file:///p/b.rb") 1 (placed_here (codes "y") ∷ []) ∷ []
 unfolding percent_decode is_utf8 chars encode
@@ -249,7 +250,7 @@ gone_again_runs : Run toy [] gone_again
 unfolding percent_decode is_utf8 chars encode
 gone_again_runs = (refl, (refl, (refl, (tt, (refl, (record { ready = refl; now = refl; fresh = refl; rightly = inl refl }, tt))))))
 
-gone_again_writes : outs toy [] gone_again ≡ out.Initialized (id.Number (pos 1)) ∷ out.List (codes "file:///p/a.rb") 2 [] ∷ []
+gone_again_writes : outs toy [] gone_again ≡ out.Initialized (id.Number (pos 1)) Utf16 ∷ out.List (codes "file:///p/a.rb") 2 [] ∷ []
 unfolding percent_decode is_utf8 chars encode
 gone_again_writes = refl
 
@@ -276,20 +277,20 @@ closed_unsaved = refl
 
 -- a change of a document that isn't open is refused by a log message
 refused_change : (history [] (begin ∷ msg.Changed (codes "file:///p/z.rb") [] ∷ [])).answers ≡
-    out.Initialized (id.Number (pos 1)) ∷ out.Log (codes "textDocument/didChange") NotOpen ∷ []
+    out.Initialized (id.Number (pos 1)) Utf16 ∷ out.Log (codes "textDocument/didChange") NotOpen ∷ []
 unfolding percent_decode is_utf8 chars encode
 refused_change = refl
 
 -- a URI that names no path below the root
 refused_open : (history [] (begin ∷ msg.Opened (codes "untitled:1") (codes "") ∷ [])).answers ≡
-    out.Initialized (id.Number (pos 1)) ∷ out.Log (codes "textDocument/didOpen") NotInProject ∷ []
+    out.Initialized (id.Number (pos 1)) Utf16 ∷ out.Log (codes "textDocument/didOpen") NotInProject ∷ []
 unfolding percent_decode is_utf8 chars encode
 refused_open = refl
 
 -- a range that ends before it starts, and the text stays
 backwards : (history [] (begin ∷ open_a ∷ msg.Changed (codes "file:///p/a.rb")
     (record { range = Some (record { line = 0; unit = 2 }, record { line = 0; unit = 1 }); text = codes "z" } ∷ []) ∷ [])).answers ≡
-    out.Initialized (id.Number (pos 1)) ∷ out.Log (codes "textDocument/didChange") Backwards ∷ []
+    out.Initialized (id.Number (pos 1)) Utf16 ∷ out.Log (codes "textDocument/didChange") Backwards ∷ []
 unfolding percent_decode is_utf8 chars encode
 backwards = refl
 
@@ -306,7 +307,7 @@ unfolding percent_decode is_utf8 chars encode
 shut_early_runs = (refl, (tt, (refl, (refl, (record { ready = refl; now = refl; fresh = refl; rightly = inr (λ e. cc) }, (refl, tt))))))
 
 shut_early_writes : outs toy one_file shut_early ≡
-    out.Initialized (id.Number (pos 1)) ∷ out.List (codes "file:///p/a.rb") 0 (placed_here (codes "x") ∷ []) ∷ out.Null (id.Number (pos 2)) ∷ []
+    out.Initialized (id.Number (pos 1)) Utf16 ∷ out.List (codes "file:///p/a.rb") 0 (placed_here (codes "x") ∷ []) ∷ out.Null (id.Number (pos 2)) ∷ []
 unfolding percent_decode is_utf8 chars encode
 shut_early_writes = refl
 
@@ -321,19 +322,19 @@ too_early : answers_to [] (msg.Unknown (id.Number (pos 7)) ∷ []) ≡ out.Error
 too_early = refl
 
 too_late : answers_to [] (begin ∷ shut ∷ msg.Unknown (id.Number (pos 3)) ∷ []) ≡
-    out.Initialized (id.Number (pos 1)) ∷ out.Error (Some (id.Number (pos 3))) (negsuc 32599) ∷ []
+    out.Initialized (id.Number (pos 1)) Utf16 ∷ out.Error (Some (id.Number (pos 3))) (negsuc 32599) ∷ []
 too_late = refl
 
 again : answers_to [] (begin ∷ begin ∷ []) ≡
-    out.Initialized (id.Number (pos 1)) ∷ out.Error (Some (id.Number (pos 1))) (negsuc 32599) ∷ []
+    out.Initialized (id.Number (pos 1)) Utf16 ∷ out.Error (Some (id.Number (pos 1))) (negsuc 32599) ∷ []
 again = refl
 
 unreadable : answers_to [] (msg.BadParams (codes "initialize") (Some (id.Number (pos 1))) ∷ begin ∷ []) ≡
-    out.Error (Some (id.Number (pos 1))) (negsuc 32601) ∷ out.Initialized (id.Number (pos 1)) ∷ []
+    out.Error (Some (id.Number (pos 1))) (negsuc 32601) ∷ out.Initialized (id.Number (pos 1)) Utf16 ∷ []
 unreadable = refl
 
 after_exit : answers_to [] (msg.Exit ∷ msg.Unknown (id.Number (pos 7)) ∷ begin ∷ []) ≡
-    out.Error (Some (id.Number (pos 7))) (negsuc 32001) ∷ out.Initialized (id.Number (pos 1)) ∷ []
+    out.Error (Some (id.Number (pos 7))) (negsuc 32001) ∷ out.Initialized (id.Number (pos 1)) Utf16 ∷ []
 after_exit = refl
 
 -- no message is taken after the end of input
@@ -343,7 +344,7 @@ after_end p = cc
 -- ---- what is not legal
 
 abbrev greeting : Out
-greeting = out.Initialized (id.Number (pos 1))
+greeting = out.Initialized (id.Number (pos 1)) Utf16
 
 abbrev two_edits : List Message
 two_edits = begin ∷ open_a ∷ open_a ∷ []

@@ -164,7 +164,7 @@ farewell_take language s h os (Edited e opened) f q w =
     (farewell_same s.owing h.shutdown os [] _ _ refl (farewell_free s.owing h.shutdown os s.stale _ s.todo _ none w))
 farewell_take language s h os (Began id agreed) f q w =
     let none = none_before h.session.phase h.edits h.shutdown (Began id agreed) f q (not_closing_began h.session.phase id agreed f) in
-    farewell_same s.owing h.shutdown os (out.Initialized id ∷ []) true s.todo refl (farewell_free s.owing h.shutdown os s.stale true s.todo s.todo none w)
+    farewell_same s.owing h.shutdown os (out.Initialized id agreed.encoding ∷ []) true s.todo refl (farewell_free s.owing h.shutdown os s.stale true s.todo s.todo none w)
 farewell_take language s h os (Ended id) f q w =
     let none = none_before h.session.phase h.edits h.shutdown (Ended id) f q (not_closing_ended h.session.phase id f) in
     farewell_same (Some id) (Some (record { id = id; answered = h.answers })) os [] s.stale s.todo refl
@@ -182,7 +182,7 @@ answer_legal language base h os (Failed id code) e may =
 answer_legal language base h os (Logged method reason) e may =
     each_end language base _ [] os (out.Log method reason) may ([], sym (append-nil _ ∙ ap (λ x. x ++ out.Log method reason ∷ []) e))
 answer_legal language base h os (Began id agreed) e may =
-    each_end language base _ [] os (out.Initialized id) may ([], sym (append-nil _ ∙ ap (λ x. x ++ out.Initialized id ∷ []) e))
+    each_end language base _ [] os (out.Initialized id agreed.encoding) may ([], sym (append-nil _ ∙ ap (λ x. x ++ out.Initialized id agreed.encoding ∷ []) e))
 answer_legal language base h os Nothing e may = subst (EachMayStand language base (heard_as h Nothing) []) (sym (append-nil os)) may
 answer_legal language base h os (Edited x opened) e may = subst (EachMayStand language base (heard_as h (Edited x opened)) []) (sym (append-nil os)) may
 answer_legal language base h os (Kept f) e may = subst (EachMayStand language base (heard_as h (Kept f)) []) (sym (append-nil os)) may
@@ -365,17 +365,17 @@ answered_held base h os (suc n) sound e = subst (Begins (get_or h.answered n [])
 -- the list that a file's work writes
 abbrev pub list_written : State → Path → ℕ → List Diag → Out
 list_written s f n list = out.List (uri_of s.session.documents.agreed f) n
-    (map (placed s.session.documents.agreed (unwrap_or (bytes_at f (project_of s)) [])) list)
+    (map (placed s.session.documents.agreed.encoding (unwrap_or (bytes_at f (project_of s)) [])) list)
 
 list_right : (language : Language) (base : Project) (h : History) (s : State) (f : Path) (n : ℕ) (list : List Diag) → s.session ≡ h.session → Sound base h → s.epoch ≡ length h.edits → n ≡ s.epoch →
     list ≡ language.fresh (project_of s) f →
-    map (placed s.session.documents.agreed (unwrap_or (bytes_at f (project_of s)) [])) list ≡ list_of language h.session.documents.agreed (after base h.edits n) f
+    map (placed s.session.documents.agreed.encoding (unwrap_or (bytes_at f (project_of s)) [])) list ≡ list_of language h.session.documents.agreed (after base h.edits n) f
 list_right language base h s f n list same sound counted now fresh =
     let there : project_of s ≡ after base h.edits n =
     ap (λ (x : Session). x.documents.project) same ∙ sound.project ∙ sym (after_last base h.edits) ∙ ap (after base h.edits) (sym (now ∙ counted)) in
     let agreed = ap (λ (x : Session). x.documents.agreed) same in
-    ap₂ (λ a p. map (placed a (unwrap_or (bytes_at f p) [])) list) agreed there
-    ∙ ap (λ l. map (placed h.session.documents.agreed (unwrap_or (bytes_at f (after base h.edits n)) [])) l) (fresh ∙ ap (λ p. language.fresh p f) there)
+    ap₂ (λ (a : Agreed) p. map (placed a.encoding (unwrap_or (bytes_at f p) [])) list) agreed there
+    ∙ ap (λ l. map (placed h.session.documents.agreed.encoding (unwrap_or (bytes_at f (after base h.edits n)) [])) l) (fresh ∙ ap (λ p. language.fresh p f) there)
 
 list_legal : (language : Language) (base : Project) (h : History) (os : List Out) (s : State) (f : Path) (n : ℕ) (list : List Diag) →
     Ready s f → n ≡ s.epoch → list ≡ language.fresh (project_of s) f → Holds language base h os s →

@@ -103,7 +103,7 @@ module _ (language : Language) (base : Project) (h : History) (t : Told) (fits :
   stands_still : (front : List Out) (x : Out) → MayStand language base h front x → MayStand language base (heard_as h t) front x
   stands_still front (out.List uri n items) may = list_stays front uri n items may
   stands_still front (out.Null id) may = farewell_stays front id may
-  stands_still front (out.Initialized id) may = Begins-more _ _ _ may
+  stands_still front (out.Initialized id encoding) may = Begins-more _ _ _ may
   stands_still front (out.Error id code) may = Begins-more _ _ _ may
   stands_still front (out.Log method reason) may = Begins-more _ _ _ may
 

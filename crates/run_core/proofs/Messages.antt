@@ -27,7 +27,7 @@ answers_in-append (x ∷ xs) ys = ap (λ t. x ∷ t) (answers_in-append xs ys)
 
 pub has_greeting-append : (xs ys : List Out) → has_greeting (xs ++ ys) ≡ (has_greeting xs || has_greeting ys)
 has_greeting-append [] ys = refl
-has_greeting-append (out.Initialized id ∷ xs) ys = refl
+has_greeting-append (out.Initialized id encoding ∷ xs) ys = refl
 has_greeting-append (x ∷ xs) ys = has_greeting-append xs ys
 
 pub has_farewell-append : (xs ys : List Out) → has_farewell (xs ++ ys) ≡ (has_farewell xs || has_farewell ys)

@@ -37,7 +37,7 @@ last_shown m f = unwrap_or (lookup f m) []
 
 -- the items of a list of errors of a file
 abbrev pub items_of : Session → Path → List Diag → List Placed
-items_of s f list = map (placed s.documents.agreed (unwrap_or (bytes_at f s.documents.project) [])) list
+items_of s f list = map (placed s.documents.agreed.encoding (unwrap_or (bytes_at f s.documents.project) [])) list
 
 -- before `initialize` nothing was shown
 abbrev pub NothingShown : Phase → List (Path × List Diag) → List Out → Type 0
@@ -99,7 +99,7 @@ waiting_began Serving id agreed m os f b = absurd f
 waiting_began Closing id agreed m os f b = absurd f
 
 right_began : (language : Language) (h : History) (os : List Out) (s : State) (id : Id) (agreed : Agreed) → Fits h.session.phase (Began id agreed) →
-    IsRight language h os s → h.edits ≡ [] → IsRight language (heard_as h (Began id agreed)) (os ++ out.Initialized id ∷ []) (after_message language s (Began id agreed))
+    IsRight language h os s → h.edits ≡ [] → IsRight language (heard_as h (Began id agreed)) (os ++ out.Initialized id agreed.encoding ∷ []) (after_message language s (Began id agreed))
 right_began language h os s id agreed f right none =
     let nothing = waiting_began h.session.phase id agreed s.shown os f right.before in
     let shown : (g : Path) → last_shown s.shown g ≡ [] = λ g. ap (λ m. last_shown m g) nothing.0 in
@@ -160,7 +160,7 @@ module _ (language : Language) (laws : IsLanguage language) (s : Session) (es : 
     told = λ f p.
         let q = not_owed f e.path owed p in
         last_items-append _ [] os [] ∙ right.told f q.1
-        ∙ ap (λ o. map (placed s.documents.agreed (unwrap_or o [])) (last_shown m f)) (sym (bytes_at_other f e.path e.now s.documents.project q.0));
+        ∙ ap (λ o. map (placed s.documents.agreed.encoding (unwrap_or o [])) (last_shown m f)) (sym (bytes_at_other f e.path e.now s.documents.project q.0));
     since = λ f p i.
         let q = not_owed f e.path owed p in
         HasListSince-append _ _ os [] (subst (λ n. HasListSince (uri_of s.documents.agreed f) n os) (sym (last_edit_other f es e q.0))
@@ -180,7 +180,7 @@ module _ (language : Language) (laws : IsLanguage language) (s : Session) (es : 
     told = λ f p.
         let q = not_owed f e.path owed p in
         last_items-append _ [] os [] ∙ right.told f q.1
-        ∙ ap (λ o. map (placed s.documents.agreed (unwrap_or o [])) (last_shown m f)) (sym (bytes_at_other f e.path e.now s.documents.project q.0));
+        ∙ ap (λ o. map (placed s.documents.agreed.encoding (unwrap_or o [])) (last_shown m f)) (sym (bytes_at_other f e.path e.now s.documents.project q.0));
     since = λ f p i.
         let q = not_owed f e.path owed p in
         HasListSince-append _ _ os [] (subst (λ n. HasListSince (uri_of s.documents.agreed f) n os) (sym (last_edit_other f es e q.0))

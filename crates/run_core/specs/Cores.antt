@@ -194,7 +194,7 @@ IsDue r list false = IsFalse r.owed × (list ≡ unwrap_or r.shown [])
 -- what lands where a file was worked on, this list was found, and `shown` says whether it is written
 abbrev pub landed_by : Documents → Path → ℕ → List Diag → Bool → Landed
 landed_by d f epoch list true = Shown (Work f epoch list true)
-    (out.List (uri_of d.agreed f) epoch (map (placed d.agreed (unwrap_or (bytes_at f d.project) [])) list))
+    (out.List (uri_of d.agreed f) epoch (map (placed d.agreed.encoding (unwrap_or (bytes_at f d.project) [])) list))
 landed_by d f epoch list false = Quiet (Work f epoch list false)
 
 -- This list was found in the file of a row of these rows: whether it is written, what lands, and the rows that are left.

@@ -34,4 +34,4 @@ language_of facts errors_of keeps = record {
 -- the list that a client is shown of a file: its errors in the project, their places as positions in its text
 abbrev pub list_of : Language → Agreed → Project → Path → List Placed
 list_of language agreed p f =
-    map (placed agreed (unwrap_or (bytes_at f p) [])) (language.fresh p f)
+    map (placed agreed.encoding (unwrap_or (bytes_at f p) [])) (language.fresh p f)

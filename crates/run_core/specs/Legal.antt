@@ -26,7 +26,7 @@ answers_in (x ∷ xs) = x ∷ answers_in xs
 -- the reply to `initialize` is among the messages
 abbrev pub has_greeting : List Out → Bool
 has_greeting [] = false
-has_greeting (out.Initialized id ∷ xs) = true
+has_greeting (out.Initialized id encoding ∷ xs) = true
 has_greeting (x ∷ xs) = has_greeting xs
 
 -- the reply to `shutdown` is among the messages
@@ -80,7 +80,7 @@ pub record MayList (language : Language) (base : Project) (h : History) (front :
 abbrev pub MayStand : Language → Project → History → List Out → Out → Type 0
 MayStand language base h front (out.List uri epoch items) = MayList language base h front uri epoch items
 MayStand language base h front (out.Null id) = MayFarewell h front id
-MayStand language base h front (out.Initialized id) = MayAnswer h front (out.Initialized id)
+MayStand language base h front (out.Initialized id encoding) = MayAnswer h front (out.Initialized id encoding)
 MayStand language base h front (out.Error id code) = MayAnswer h front (out.Error id code)
 MayStand language base h front (out.Log method reason) = MayAnswer h front (out.Log method reason)
 

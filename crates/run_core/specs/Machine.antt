@@ -158,7 +158,7 @@ next language s Idle = record s { owing = None }
 abbrev pub written : State → Step → Option Out
 written s (Take (Msg m)) = answer_of (told s.session m)
 written s (Work f epoch list true) = Some (out.List (uri_of s.session.documents.agreed f) epoch
-    (map (placed s.session.documents.agreed (unwrap_or (bytes_at f (project_of s)) [])) list))
+    (map (placed s.session.documents.agreed.encoding (unwrap_or (bytes_at f (project_of s)) [])) list))
 written s Idle = elim s.owing [
   | None ↦ None
   | Some id ↦ Some (out.Null id)

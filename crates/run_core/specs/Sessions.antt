@@ -125,5 +125,5 @@ after_told s t = s
 abbrev pub answer_of : Told → Option Out
 answer_of (Failed id code) = Some (Error id code)
 answer_of (Logged method reason) = Some (Log method reason)
-answer_of (Began id agreed) = Some (Initialized id)
+answer_of (Began id agreed) = Some (Initialized id agreed.encoding)
 answer_of t = None

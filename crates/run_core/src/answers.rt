@@ -10,6 +10,7 @@ ghost use Rattle.run_core.specs.Sessions.{answer_of, method_of, reason_of, when_
 use lsp_docs::DocEnd;
 use lsp_msg::{
     INVALID_PARAMS, INVALID_REQUEST, Id, METHOD_NOT_FOUND, Msg, Out, Reason, SERVER_NOT_INITIALIZED,
+    chosen_encoding,
 };
 use srb_terms::{NoMemory, Words};
 use std::alloc::Global;
@@ -50,8 +51,11 @@ pub fn waiting_answer(msg: Msg) -> Option<Out>
         Msg::Initialize {
             id,
             root: _root,
-            encodings: _encodings,
-        } => Some(Out::Initialized { id }),
+            encodings,
+        } => {
+            let encoding = chosen_encoding(encodings.as_slice());
+            Some(Out::Initialized { id, encoding })
+        }
         Msg::Shutdown { id } => refusal(Some(id), SERVER_NOT_INITIALIZED),
         Msg::Unknown { id } => refusal(Some(id), SERVER_NOT_INITIALIZED),
         Msg::BadParams { method, id } => refusal_if(id, code_for(&method)),

@@ -24,7 +24,7 @@ use crate::landed::Landed;
 use crate::phase::Phase;
 use crate::rows::{Rows, next_row};
 use lsp_docs::Docs;
-use lsp_msg::{Id, Msg, Out};
+use lsp_msg::{Id, Msg, Out, chosen_encoding};
 use run_queues::Item;
 use run_watch::{EndCause, Inp, Step};
 use srb_check::{FileRec, Job};
@@ -151,8 +151,12 @@ impl Core {
         ensures job { self.new.job ≡ self.old.job }
         ensures err { OnErr result (self.new ≡ self.old) }
     {
-        if let Msg::Initialize { root, .. } = &msg {
+        if let Msg::Initialize {
+            root, encodings, ..
+        } = &msg
+        {
             self.docs.set_root(alloc, root.as_ref())?;
+            self.docs.set_encoding(chosen_encoding(encodings.as_slice()));
             self.phase = Phase::Serving;
             self.stale = true;
         }

@@ -10,10 +10,11 @@ use Rattle.std.specs.Char.{len_utf8}
 use borrow.Author.Tests.{leb-true}
 use lib.Utf8.{encode, encodes}
 use Rattle.srb_text.specs.Lines.{Line, lines, AreLines, ends_line, with_content, with_ending, begins_with_line_feed, LINE_FEED, CARRIAGE_RETURN}
-use Rattle.srb_text.specs.Positions.{len_utf16, fitting, line_size, byte_len, position_in, position_of, IsStart, one}
-use Rattle.srb_text.specs.Units.{units_at}
+use Rattle.srb_text.specs.Positions.{fitting, line_size, byte_len, position_in, position_of, IsStart, one}
+use Rattle.srb_text.specs.Units.{weight_at}
+use Rattle.srb_text.specs.declared.Encoding.TheVariants.{Utf32}
 use Rattle.srb_text.specs.declared.Pos.{Pos}
-use Rattle.srb_text.proofs.SpellingLemmas.{Spelled, spelled, units_following, length-encodes, lines-encodes, encoded}
+use Rattle.srb_text.proofs.SpellingLemmas.{Spelled, spelled, weight_following, length-encodes, lines-encodes, encoded}
 use Rattle.srb_text.proofs.FittingLemmas.{fitting_whole, fitting_more}
 use Rattle.srb_text.proofs.PlaceLemmas.{sum_by-one, fitting-one}
 use Rattle.srb_text.proofs.LineLemmas.{AreLines-lines}
@@ -35,29 +36,22 @@ begins-more : (more : List ℕ) → AllByRecursion (λ b. (128 ≤ b) × (b < 19
 begins-more [] h = refl
 begins-more (b ∷ bs) h = omega (arith, sum_by-cons begins b bs, begins-following b h.0.0 h.0.1, begins-more bs h.1)
 
--- a byte that has units begins a character
+-- a byte that counts something begins a character
 abbrev count : Bool → ℕ
 count follows = if follows then 0 else 1
 
-begins-lead : (b : ℕ) → 0 < units_at b → begins b ≡ 1
+begins-lead : (b : ℕ) → 0 < weight_at Utf32 b → begins b ≡ 1
 begins-lead b h = by_test (nat_le 128 b) (nat_le b 191) refl refl
   where
     by_test : (low high : Bool) → nat_le 128 b ≡ low → nat_le b 191 ≡ high → count (low && high) ≡ 1
-    by_test true true e f = absurd (omega (arith, units_following b (leb-true 128 b e) (omega (arith, leb-true b 191 f))))
+    by_test true true e f = absurd (omega (arith, weight_following Utf32 b (leb-true 128 b e) (omega (arith, leb-true b 191 f))))
     by_test true false e f = refl
     by_test false high e f = refl
-
-len_utf16-some : (c : ℕ) → 0 < len_utf16 c
-len_utf16-some c = by_test (nat_lt c 65536)
-  where
-    by_test : (b : Bool) → 0 < (if b then 1 else 2)
-    by_test true = omega arith
-    by_test false = omega arith
 
 begins-encode : (c : ℕ) → sum_by begins (encode c) ≡ 1
 begins-encode c =
     let s : Spelled c = spelled c in
-    ap (sum_by begins) s.bytes ∙ sum_by-cons begins s.lead s.more ∙ omega (arith, begins-lead s.lead (omega (arith, s.units, len_utf16-some c)), begins-more s.more s.follow)
+    ap (sum_by begins) s.bytes ∙ sum_by-cons begins s.lead s.more ∙ omega (arith, begins-lead s.lead (omega (arith, s.units Utf32)), begins-more s.more s.follow)
 
 begins-encodes : (cs : List ℕ) → sum_by begins (encodes cs) ≡ sum_by one cs
 begins-encodes [] = refl

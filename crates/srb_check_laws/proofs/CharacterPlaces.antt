@@ -8,29 +8,27 @@ use Rattle.std.proofs.lemmas.List.Sums.{sum_by-append, sum_by-cons}
 use Rattle.std.proofs.lemmas.Str.{length-encode}
 use borrow.Author.Tests.{leb-true}
 use lib.Utf8.{encodes}
-use Rattle.srb_text.specs.Positions.{fitting, byte_len, IsStart, len_utf16}
-use Rattle.srb_text.specs.Units.{units_at}
+use Rattle.srb_text.specs.Positions.{fitting, byte_len, IsStart}
+use Rattle.srb_text.specs.Units.{weight_at}
+use Rattle.srb_text.specs.declared.Encoding.TheVariants.{Utf32}
 use Rattle.srb_text.proofs.FittingLemmas.{fitting_split, fitting_whole, sum_by-fitting-front}
-use Rattle.srb_text.proofs.SpellingLemmas.{Spelled, spelled, units_following, length-encodes}
+use Rattle.srb_text.proofs.SpellingLemmas.{Spelled, spelled, weight_following, length-encodes}
 use Rattle.srb_text.proofs.TransferLemmas.{drop-encodes}
 use Rattle.srb_check.specs.Characters.{continues, continuing, first_size, character_at}
 
 following : (b : ℕ) → 128 ≤ b → b < 192 → continues b ≡ true
 following b low high = grind (arith, nat_tests)
 
-leading : (b : ℕ) → 0 < units_at b → continues b ≡ false
+leading : (b : ℕ) → 0 < weight_at Utf32 b → continues b ≡ false
 leading b h = by_test (nat_le 128 b) (nat_le b 191) refl refl
   where
     by_test : (low high : Bool) → nat_le 128 b ≡ low → nat_le b 191 ≡ high → (low && high) ≡ false
-    by_test true true e f = absurd (omega (arith, units_following b (leb-true 128 b e) (omega (arith, leb-true b 191 f))))
+    by_test true true e f = absurd (omega (arith, weight_following Utf32 b (leb-true 128 b e) (omega (arith, leb-true b 191 f))))
     by_test true false e f = refl
     by_test false high e f = refl
 
-units-some : (c : ℕ) → 0 < len_utf16 c
-units-some c = grind (arith, nat_tests)
-
 begins : (c : ℕ) (s : Spelled c) → continues s.lead ≡ false
-begins c s = leading s.lead (omega (arith, s.units, units-some c))
+begins c s = leading s.lead (omega (arith, s.units Utf32))
 
 continuing-more : (more rest : List ℕ) → AllByRecursion (λ b. (128 ≤ b) × (b < 192)) more → continuing rest ≡ 0 → continuing (more ++ rest) ≡ length more
 continuing-more [] rest h none = none

@@ -8,21 +8,18 @@ use Rattle.std.specs.List.{AllByRecursion}
 use Rattle.std.specs.Char.{len_utf8}
 use Rattle.std.specs.Str.{IsCharBoundary}
 use lib.Utf8.{encode, encodes}
+use Rattle.srb_text.specs.declared.Encoding.TheVariants.{Utf32}
 use Rattle.srb_text.specs.Edits.{after}
 use Rattle.srb_text.specs.Laws.{StartsAreBoundaries}
-use Rattle.srb_text.specs.Positions.{byte_len, fitting, len_utf16, IsStart}
+use Rattle.srb_text.specs.Positions.{byte_len, fitting, IsStart}
 use Rattle.srb_text.proofs.FittingLemmas.{fitting_more, fitting_none}
-use Rattle.srb_text.proofs.SpellingLemmas.{Spelled, spelled, units_following, len_utf16_one, len_utf16_two, length-encodes}
+use Rattle.srb_text.proofs.SpellingLemmas.{Spelled, spelled, weight_following, length-encodes}
 use Rattle.srb_text.proofs.TransferLemmas.{drop-encodes, start_within}
-
-len_utf16_some : (c : ℕ) → 0 < len_utf16 c
-len_utf16_some c =
-    ⊎_elim (λ (h : c < 65536). omega (arith, len_utf16_one c h)) (λ (h : 65536 ≤ c). omega (arith, len_utf16_two c h)) (cases_lt c 65536)
 
 -- a byte that begins a character is no byte that follows one
 lead_high : (c : ℕ) (s : Spelled c) → 128 ≤ s.lead → 192 ≤ s.lead
 lead_high c s h =
-    ⊎_elim (λ (low : s.lead < 192). absurd (omega (arith, len_utf16_some c, s.units, units_following s.lead h low))) (λ (high : 192 ≤ s.lead). high) (cases_lt s.lead 192)
+    ⊎_elim (λ (low : s.lead < 192). absurd (omega (arith, s.units Utf32, weight_following Utf32 s.lead h low))) (λ (high : 192 ≤ s.lead). high) (cases_lt s.lead 192)
 
 cut_before : (text : List ℕ) → 0 < length (encodes text) → 128 ≤ get_or (encodes text) 0 0 → 192 ≤ get_or (encodes text) 0 0
 cut_before [] l h = absurd (omega arith)

@@ -1,7 +1,8 @@
 -- Places and edits of small texts, as the definitions compute them.
 use Rattle.std.proofs.Common.{◌≡◌, ℕ, List, [], ◌∷◌, refl}
-use Rattle.srb_text.specs.Positions.{len_utf16, position_of, offset_of}
+use Rattle.srb_text.specs.Positions.{len_utf16, weight_of, position_of, offset_of}
 use Rattle.srb_text.specs.Edits.{edited}
+use Rattle.srb_text.specs.declared.Encoding.TheVariants.{Utf8, Utf16, Utf32}
 use Rattle.srb_text.specs.declared.Pos.{Pos}
 
 -- `a😀b`, and its line's end
@@ -26,6 +27,22 @@ past_the_line_end = refl
 past_the_last_line : edited len_utf16 text (at 9 0) (at 9 0) (113 ∷ []) ≡ 97 ∷ 0x1F600 ∷ 98 ∷ 10 ∷ 113 ∷ []
 unfolding text at
 past_the_last_line = refl
+
+by_bytes : edited (weight_of Utf8) text (at 0 5) (at 0 6) (99 ∷ []) ≡ 97 ∷ 0x1F600 ∷ 99 ∷ 10 ∷ []
+unfolding text at
+by_bytes = refl
+
+inside_the_character : edited (weight_of Utf8) text (at 0 3) (at 0 5) [] ≡ 97 ∷ 98 ∷ 10 ∷ []
+unfolding text at
+inside_the_character = refl
+
+by_characters : edited (weight_of Utf32) text (at 0 2) (at 0 3) (99 ∷ []) ≡ 97 ∷ 0x1F600 ∷ 99 ∷ 10 ∷ []
+unfolding text at
+by_characters = refl
+
+after_the_emoji : (position_of (weight_of Utf8) text 5 ≡ at 0 5) × (position_of (weight_of Utf16) text 5 ≡ at 0 3) × (position_of (weight_of Utf32) text 5 ≡ at 0 2)
+unfolding text at
+after_the_emoji = (refl, refl, refl)
 
 later_offset : offset_of len_utf16 text (at 0 4) ≡ 6
 unfolding text at

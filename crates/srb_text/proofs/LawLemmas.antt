@@ -1,13 +1,14 @@
 -- The proofs of the laws.
-use Rattle.std.proofs.Common.{◌≡◌, ℕ, zero, suc, ◌+◌, ◌-◌, ◌<◌, ◌≤◌, ◌⊎◌, true, false, nat_lt, List, [], ◌∷◌, ◌++◌, length, drop, refl, sym, subst, ap, ap₂, ◌∙◌, inl, inr, ⊎_elim, arith, append_assoc, append-nil}
+use Rattle.std.proofs.Common.{◌≡◌, ℕ, zero, suc, ◌+◌, ◌-◌, ◌<◌, ◌≤◌, ◌⊎◌, Bool, true, false, nat_lt, if◌then◌else◌, List, [], ◌∷◌, ◌++◌, length, drop, refl, sym, subst, ap, ap₂, ◌∙◌, inl, inr, ⊎_elim, arith, append_assoc, append-nil}
 use Rattle.std.proofs.lemmas.Bool.{lt-ltb, le-ltb, cases_lt}
 use Rattle.std.proofs.lemmas.List.Sums.{sum_by-cons, sum_by-append}
 use Rattle.std.specs.List.{sum_by}
 use Rattle.std.specs.Char.{len_utf8}
 use Rattle.srb_text.specs.Edits.{before, after, replaced}
-use Rattle.srb_text.specs.Laws.{LinesAreUnique, StartsEndFronts, IsInsideLineEnd, IsWeight, OffsetsComeBack, PositionsRise, OffsetsRise, OffsetsAreStarts, EmptyEditsKeep, EditsHaveSizes}
+use Rattle.srb_text.specs.Laws.{LinesAreUnique, StartsEndFronts, IsInsideLineEnd, IsWeight, EncodingsWeigh, OffsetsComeBack, PositionsRise, OffsetsRise, OffsetsAreStarts, EmptyEditsKeep, EditsHaveSizes}
 use Rattle.srb_text.specs.Lines.{Line, LINE_FEED, CARRIAGE_RETURN, begins_with_line_feed, lines, IsLineEnding, IsLastLine, IsFirstLine, AreLines}
 use Rattle.srb_text.specs.Positions.{fitting, line_size, byte_len, position_in, offset_in, position_of, offset_of, IsStart, IsAtMost}
+use Rattle.srb_text.specs.declared.Encoding.TheVariants.{Utf8, Utf16, Utf32}
 use Rattle.srb_text.specs.declared.Pos.{Pos}
 use Rattle.srb_text.proofs.FittingLemmas.{fitting_more, fitting_none, fitting_split, fitting_whole, fitting-append_all, sum_by-fitting-front}
 use Rattle.srb_text.proofs.LineLemmas.{AreLines-lines}
@@ -70,6 +71,16 @@ sum_by-fitting-rises f w k m (x ∷ xs) h =
     let i = ap (sum_by w) (fitting_more f m x xs (omega arith)) ∙ sum_by-cons w x (fitting f (m - f x) xs) in
     omega (arith, e, i, sum_by-fitting-rises f w (k - f x) (m - f x) xs (omega arith)))
     (cases_lt k (f x))
+
+-- each character counts something
+some_of : (t : Bool) (m n : ℕ) → 0 < m → 0 < n → 0 < (if t then m else n)
+some_of true m n h g = h
+some_of false m n h g = g
+
+pub encodings_weigh : EncodingsWeigh
+encodings_weigh Utf8 c = some_of (nat_lt c 0x80) 1 _ (omega arith) (some_of (nat_lt c 0x800) 2 _ (omega arith) (some_of (nat_lt c 0x1_0000) 3 4 (omega arith) (omega arith)))
+encodings_weigh Utf16 c = some_of (nat_lt c 0x1_0000) 1 2 (omega arith) (omega arith)
+encodings_weigh Utf32 c = omega arith
 
 fitting-zero : (w : ℕ → ℕ) (xs : List ℕ) → IsWeight w → fitting w 0 xs ≡ []
 fitting-zero w [] h = refl

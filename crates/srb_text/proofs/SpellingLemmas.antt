@@ -7,8 +7,10 @@ use Rattle.std.specs.List.{sum_by, AllByRecursion, list_any}
 use Rattle.std.specs.Char.{len_utf8}
 use lib.Utf8.{encode, encodes, next}
 use Rattle.srb_text.specs.Lines.{Line, LINE_FEED, CARRIAGE_RETURN, is_line_end, begins_with_line_feed, ends_line, lines, with_content, with_ending, HasNoLineEnd}
-use Rattle.srb_text.specs.Positions.{len_utf16, fitting, byte_len}
-use Rattle.srb_text.specs.Units.{units_at}
+use Rattle.srb_text.specs.Positions.{weight_of, fitting, byte_len}
+use Rattle.srb_text.specs.Units.{lead_weight, weight_at}
+use Rattle.srb_text.specs.declared.Encoding.{Encoding}
+use Rattle.srb_text.specs.declared.Encoding.TheVariants.{Utf8, Utf16, Utf32}
 use Rattle.srb_text.proofs.FittingLemmas.{fitting_more, fitting_none}
 
 IsFollowing : ℕ → Type 0
@@ -19,38 +21,66 @@ pub record Spelled (c : ℕ) : Type 0 where
   pub lead : ℕ
   pub more : List ℕ
   pub bytes : encode c ≡ lead ∷ more
-  pub units : units_at lead ≡ len_utf16 c
+  pub units : (enc : Encoding) → weight_at enc lead ≡ weight_of enc c
   pub follow : AllByRecursion (λ b. (128 ≤ b) × (b < 192)) more
   pub high : (lead ≡ c) ⊎ ((128 ≤ lead) × (128 ≤ c))
 
 following : (x : ℕ) → (128 ≤ next x) × (next x < 192)
 following x = (omega arith, omega arith)
 
-units_low : (b : ℕ) → b < 128 → units_at b ≡ 1
-units_low b h = let e : nat_lt b 128 ≡ true = lt-ltb b 128 h in rw e
+-- what the first byte of a character counts
+weight_low : (enc : Encoding) (b : ℕ) → b < 128 → weight_at enc b ≡ 1
+weight_low enc b h = let e : nat_lt b 128 ≡ true = lt-ltb b 128 h in rw e
 
-units_lead : (b : ℕ) → 192 ≤ b → b < 240 → units_at b ≡ 1
-units_lead b low high =
+weight_lead : (enc : Encoding) (b : ℕ) → 192 ≤ b → weight_at enc b ≡ lead_weight enc b
+weight_lead enc b low =
     let e : nat_lt b 128 ≡ false = le-ltb b 128 (omega arith) in
-    let f : nat_lt b 192 ≡ false = le-ltb b 192 low in
-    let g : nat_lt b 240 ≡ true = lt-ltb b 240 high in rw (e, f, g)
+    let f : nat_lt b 192 ≡ false = le-ltb b 192 low in rw (e, f)
 
-units_pair : (b : ℕ) → 240 ≤ b → units_at b ≡ 2
-units_pair b low =
-    let e : nat_lt b 128 ≡ false = le-ltb b 128 (omega arith) in
-    let f : nat_lt b 192 ≡ false = le-ltb b 192 (omega arith) in
-    let g : nat_lt b 240 ≡ false = le-ltb b 240 low in rw (e, f, g)
-
-pub units_following : (b : ℕ) → 128 ≤ b → b < 192 → units_at b ≡ 0
-units_following b low high =
+pub weight_following : (enc : Encoding) (b : ℕ) → 128 ≤ b → b < 192 → weight_at enc b ≡ 0
+weight_following enc b low high =
     let e : nat_lt b 128 ≡ false = le-ltb b 128 low in
     let f : nat_lt b 192 ≡ true = lt-ltb b 192 high in rw (e, f)
 
-pub len_utf16_one : (c : ℕ) → c < 65536 → len_utf16 c ≡ 1
-len_utf16_one c h = let e : nat_lt c 65536 ≡ true = lt-ltb c 65536 h in rw e
+-- the same for a character of one, two, three or four bytes
+of_one : (enc : Encoding) (c : ℕ) → c < 128 → weight_of enc c ≡ 1
+of_one Utf8 c h = let e : nat_lt c 128 ≡ true = lt-ltb c 128 h in rw e
+of_one Utf16 c h = let e : nat_lt c 65536 ≡ true = lt-ltb c 65536 (omega arith) in rw e
+of_one Utf32 c h = refl
 
-pub len_utf16_two : (c : ℕ) → 65536 ≤ c → len_utf16 c ≡ 2
-len_utf16_two c h = let e : nat_lt c 65536 ≡ false = le-ltb c 65536 h in rw e
+of_two : (enc : Encoding) (b c : ℕ) → b < 224 → 128 ≤ c → c < 2048 → lead_weight enc b ≡ weight_of enc c
+of_two Utf8 b c h low high =
+    let e : nat_lt b 224 ≡ true = lt-ltb b 224 h in
+    let f : nat_lt c 128 ≡ false = le-ltb c 128 low in
+    let g : nat_lt c 2048 ≡ true = lt-ltb c 2048 high in rw (e, f, g)
+of_two Utf16 b c h low high =
+    let e : nat_lt b 240 ≡ true = lt-ltb b 240 (omega arith) in
+    let f : nat_lt c 65536 ≡ true = lt-ltb c 65536 (omega arith) in rw (e, f)
+of_two Utf32 b c h low high = refl
+
+of_three : (enc : Encoding) (b c : ℕ) → 224 ≤ b → b < 240 → 2048 ≤ c → c < 65536 → lead_weight enc b ≡ weight_of enc c
+of_three Utf8 b c g h low high =
+    let e : nat_lt b 224 ≡ false = le-ltb b 224 g in
+    let f : nat_lt b 240 ≡ true = lt-ltb b 240 h in
+    let k : nat_lt c 128 ≡ false = le-ltb c 128 (omega arith) in
+    let l : nat_lt c 2048 ≡ false = le-ltb c 2048 low in
+    let m : nat_lt c 65536 ≡ true = lt-ltb c 65536 high in rw (e, f, k, l, m)
+of_three Utf16 b c g h low high =
+    let e : nat_lt b 240 ≡ true = lt-ltb b 240 h in
+    let f : nat_lt c 65536 ≡ true = lt-ltb c 65536 high in rw (e, f)
+of_three Utf32 b c g h low high = refl
+
+of_four : (enc : Encoding) (b c : ℕ) → 240 ≤ b → 65536 ≤ c → lead_weight enc b ≡ weight_of enc c
+of_four Utf8 b c h low =
+    let e : nat_lt b 224 ≡ false = le-ltb b 224 (omega arith) in
+    let f : nat_lt b 240 ≡ false = le-ltb b 240 h in
+    let k : nat_lt c 128 ≡ false = le-ltb c 128 (omega arith) in
+    let l : nat_lt c 2048 ≡ false = le-ltb c 2048 (omega arith) in
+    let m : nat_lt c 65536 ≡ false = le-ltb c 65536 low in rw (e, f, k, l, m)
+of_four Utf16 b c h low =
+    let e : nat_lt b 240 ≡ false = le-ltb b 240 h in
+    let f : nat_lt c 65536 ≡ false = le-ltb c 65536 low in rw (e, f)
+of_four Utf32 b c h low = refl
 
 encode_two : (c : ℕ) → 128 ≤ c → c < 2048 → encode c ≡ (192 + c / 64) ∷ next c ∷ []
 unfolding encode
@@ -77,7 +107,7 @@ spelled_one c h = record {
   lead = c;
   more = [];
   bytes = encode_ascii c h;
-  units = units_low c h ∙ sym (len_utf16_one c (omega arith));
+  units = λ enc. weight_low enc c h ∙ sym (of_one enc c h);
   follow = tt;
   high = inl refl;
 }
@@ -87,7 +117,7 @@ spelled_two c low high = record {
   lead = 192 + c / 64;
   more = next c ∷ [];
   bytes = encode_two c low high;
-  units = units_lead (192 + c / 64) (omega arith) (omega arith) ∙ sym (len_utf16_one c (omega arith));
+  units = λ enc. weight_lead enc (192 + c / 64) (omega arith) ∙ of_two enc (192 + c / 64) c (omega arith) low high;
   follow = (following c, tt);
   high = inr (omega arith, low);
 }
@@ -97,7 +127,7 @@ spelled_three c low high = record {
   lead = 224 + c / 4096;
   more = next (c / 64) ∷ next c ∷ [];
   bytes = encode_three c low high;
-  units = units_lead (224 + c / 4096) (omega arith) (omega arith) ∙ sym (len_utf16_one c (omega arith));
+  units = λ enc. weight_lead enc (224 + c / 4096) (omega arith) ∙ of_three enc (224 + c / 4096) c (omega arith) (omega arith) low high;
   follow = (following (c / 64), (following c, tt));
   high = inr (omega arith, omega arith);
 }
@@ -107,7 +137,7 @@ spelled_four c low = record {
   lead = 240 + c / 262144;
   more = next (c / 4096) ∷ next (c / 64) ∷ next c ∷ [];
   bytes = encode_four c low;
-  units = units_pair (240 + c / 262144) (omega arith) ∙ sym (len_utf16_two c low);
+  units = λ enc. weight_lead enc (240 + c / 262144) (omega arith) ∙ of_four enc (240 + c / 262144) c (omega arith) low;
   follow = (following (c / 4096), (following (c / 64), (following c, tt)));
   high = inr (omega arith, omega arith);
 }
@@ -121,17 +151,17 @@ spelled c =
     (cases_lt c 128)
 
 -- bytes that follow a first one have no units of their own, and end no line
-units_none : (more : List ℕ) → AllByRecursion (λ b. (128 ≤ b) × (b < 192)) more → sum_by units_at more ≡ 0
-units_none [] h = refl
-units_none (b ∷ bs) h = omega (arith, sum_by-cons units_at b bs, units_following b h.0.0 h.0.1, units_none bs h.1)
+units_none : (enc : Encoding) (more : List ℕ) → AllByRecursion (λ b. (128 ≤ b) × (b < 192)) more → sum_by (weight_at enc) more ≡ 0
+units_none enc [] h = refl
+units_none enc (b ∷ bs) h = omega (arith, sum_by-cons (weight_at enc) b bs, weight_following enc b h.0.0 h.0.1, units_none enc bs h.1)
 
-fitting_following : (k : ℕ) (more ys : List ℕ) → AllByRecursion (λ b. (128 ≤ b) × (b < 192)) more → fitting units_at k (more ++ ys) ≡ more ++ fitting units_at k ys
-fitting_following k [] ys h = refl
-fitting_following k (b ∷ bs) ys h =
-    let none = units_following b h.0.0 h.0.1 in
-    let same : k - units_at b ≡ k = omega (arith, none) in
-    fitting_more units_at k b (bs ++ ys) (omega (arith, none))
-    ∙ ap (λ (v : List ℕ). b ∷ v) (ap (λ (n : ℕ). fitting units_at n (bs ++ ys)) same ∙ fitting_following k bs ys h.1)
+fitting_following : (enc : Encoding) (k : ℕ) (more ys : List ℕ) → AllByRecursion (λ b. (128 ≤ b) × (b < 192)) more → fitting (weight_at enc) k (more ++ ys) ≡ more ++ fitting (weight_at enc) k ys
+fitting_following enc k [] ys h = refl
+fitting_following enc k (b ∷ bs) ys h =
+    let none = weight_following enc b h.0.0 h.0.1 in
+    let same : k - weight_at enc b ≡ k = omega (arith, none) in
+    fitting_more (weight_at enc) k b (bs ++ ys) (omega (arith, none))
+    ∙ ap (λ (v : List ℕ). b ∷ v) (ap (λ (n : ℕ). fitting (weight_at enc) n (bs ++ ys)) same ∙ fitting_following enc k bs ys h.1)
 
 no_end_high : (b : ℕ) → 128 ≤ b → is_line_end b ≡ false
 no_end_high b h = or_from _ _ (ne_eqb b LINE_FEED (λ e. absurd (omega arith))) (ne_eqb b CARRIAGE_RETURN (λ e. absurd (omega arith)))
@@ -141,38 +171,38 @@ no_end_following [] h = refl
 no_end_following (b ∷ bs) h = or_from _ _ (no_end_high b h.0.0) (no_end_following bs h.1)
 
 -- units
-pub sum_by-units-encodes : (cs : List ℕ) → sum_by units_at (encodes cs) ≡ sum_by len_utf16 cs
-sum_by-units-encodes [] = refl
-sum_by-units-encodes (c ∷ cs) =
+pub sum_by-units-encodes : (enc : Encoding) (cs : List ℕ) → sum_by (weight_at enc) (encodes cs) ≡ sum_by (weight_of enc) cs
+sum_by-units-encodes enc [] = refl
+sum_by-units-encodes enc (c ∷ cs) =
     let s = spelled c in
-    let first : sum_by units_at (encode c) ≡ len_utf16 c = ap (sum_by units_at) s.bytes ∙ sum_by-cons units_at s.lead s.more ∙ omega (arith, s.units, units_none s.more s.follow) in
-    omega (arith, sum_by-append units_at (encode c) (encodes cs), first, sum_by-units-encodes cs, sum_by-cons len_utf16 c cs)
+    let first : sum_by (weight_at enc) (encode c) ≡ weight_of enc c = ap (sum_by (weight_at enc)) s.bytes ∙ sum_by-cons (weight_at enc) s.lead s.more ∙ omega (arith, s.units enc, units_none enc s.more s.follow) in
+    omega (arith, sum_by-append (weight_at enc) (encode c) (encodes cs), first, sum_by-units-encodes enc cs, sum_by-cons (weight_of enc) c cs)
 
 pub length-encodes : (cs : List ℕ) → length (encodes cs) ≡ byte_len cs
 length-encodes [] = refl
 length-encodes (c ∷ cs) = omega (arith, length-append (encode c) (encodes cs), length-encode c, length-encodes cs, sum_by-cons len_utf8 c cs)
 
-fitting_spelled : (k c : ℕ) (ys : List ℕ) → len_utf16 c ≤ k → fitting units_at k (encode c ++ ys) ≡ encode c ++ fitting units_at (k - len_utf16 c) ys
-fitting_spelled k c ys h =
+fitting_spelled : (enc : Encoding) (k c : ℕ) (ys : List ℕ) → weight_of enc c ≤ k → fitting (weight_at enc) k (encode c ++ ys) ≡ encode c ++ fitting (weight_at enc) (k - weight_of enc c) ys
+fitting_spelled enc k c ys h =
     let s = spelled c in
-    let same : k - units_at s.lead ≡ k - len_utf16 c = ap (λ (n : ℕ). k - n) s.units in
-    ap (λ (v : List ℕ). fitting units_at k (v ++ ys)) s.bytes
-    ∙ fitting_more units_at k s.lead (s.more ++ ys) (omega (arith, s.units))
-    ∙ ap (λ (v : List ℕ). s.lead ∷ v) (fitting_following (k - units_at s.lead) s.more ys s.follow ∙ ap (λ (n : ℕ). s.more ++ fitting units_at n ys) same)
-    ∙ ap (λ (v : List ℕ). v ++ fitting units_at (k - len_utf16 c) ys) (sym s.bytes)
+    let same : k - weight_at enc s.lead ≡ k - weight_of enc c = ap (λ (n : ℕ). k - n) (s.units enc) in
+    ap (λ (v : List ℕ). fitting (weight_at enc) k (v ++ ys)) s.bytes
+    ∙ fitting_more (weight_at enc) k s.lead (s.more ++ ys) (omega (arith, s.units enc))
+    ∙ ap (λ (v : List ℕ). s.lead ∷ v) (fitting_following enc (k - weight_at enc s.lead) s.more ys s.follow ∙ ap (λ (n : ℕ). s.more ++ fitting (weight_at enc) n ys) same)
+    ∙ ap (λ (v : List ℕ). v ++ fitting (weight_at enc) (k - weight_of enc c) ys) (sym s.bytes)
 
-fitting_unspelled : (k c : ℕ) (ys : List ℕ) → k < len_utf16 c → fitting units_at k (encode c ++ ys) ≡ []
-fitting_unspelled k c ys h =
+fitting_unspelled : (enc : Encoding) (k c : ℕ) (ys : List ℕ) → k < weight_of enc c → fitting (weight_at enc) k (encode c ++ ys) ≡ []
+fitting_unspelled enc k c ys h =
     let s = spelled c in
-    ap (λ (v : List ℕ). fitting units_at k (v ++ ys)) s.bytes ∙ fitting_none units_at k s.lead (s.more ++ ys) (omega (arith, s.units))
+    ap (λ (v : List ℕ). fitting (weight_at enc) k (v ++ ys)) s.bytes ∙ fitting_none (weight_at enc) k s.lead (s.more ++ ys) (omega (arith, s.units enc))
 
 -- the bytes of what fits are what fits of the bytes
-pub fitting-encodes : (k : ℕ) (cs : List ℕ) → fitting units_at k (encodes cs) ≡ encodes (fitting len_utf16 k cs)
-fitting-encodes k [] = refl
-fitting-encodes k (c ∷ cs) =
-    ⊎_elim (λ (h : k < len_utf16 c). fitting_unspelled k c (encodes cs) h ∙ sym (ap encodes (fitting_none len_utf16 k c cs h)))
-    (λ (h : len_utf16 c ≤ k). fitting_spelled k c (encodes cs) h ∙ ap (λ (v : List ℕ). encode c ++ v) (fitting-encodes (k - len_utf16 c) cs) ∙ sym (ap encodes (fitting_more len_utf16 k c cs h)))
-    (cases_lt k (len_utf16 c))
+pub fitting-encodes : (enc : Encoding) (k : ℕ) (cs : List ℕ) → fitting (weight_at enc) k (encodes cs) ≡ encodes (fitting (weight_of enc) k cs)
+fitting-encodes enc k [] = refl
+fitting-encodes enc k (c ∷ cs) =
+    ⊎_elim (λ (h : k < weight_of enc c). fitting_unspelled enc k c (encodes cs) h ∙ sym (ap encodes (fitting_none (weight_of enc) k c cs h)))
+    (λ (h : weight_of enc c ≤ k). fitting_spelled enc k c (encodes cs) h ∙ ap (λ (v : List ℕ). encode c ++ v) (fitting-encodes enc (k - weight_of enc c) cs) ∙ sym (ap encodes (fitting_more (weight_of enc) k c cs h)))
+    (cases_lt k (weight_of enc c))
 
 -- lines
 abbrev pub encoded : Line → Line

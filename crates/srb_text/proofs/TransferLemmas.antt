@@ -10,10 +10,11 @@ use Rattle.std.specs.List.{sum_by}
 use Rattle.std.specs.Char.{len_utf8}
 use lib.Utf8.{encodes}
 use Rattle.srb_text.specs.Lines.{Line, lines, IsFirstLine, AreLines}
-use Rattle.srb_text.specs.Positions.{len_utf16, fitting, line_size, byte_len, position_in, offset_in, position_of, offset_of, IsStart, one}
+use Rattle.srb_text.specs.Positions.{weight_of, fitting, line_size, byte_len, position_in, offset_in, position_of, offset_of, IsStart, one}
 use Rattle.srb_text.specs.Edits.{before, after, replaced, edited}
 use Rattle.std.specs.String.Boundary.{IsSplitPoint}
-use Rattle.srb_text.specs.Units.{units_at}
+use Rattle.srb_text.specs.Units.{weight_at}
+use Rattle.srb_text.specs.declared.Encoding.{Encoding}
 use Rattle.srb_text.specs.declared.Pos.{Pos}
 use Rattle.srb_text.proofs.FittingLemmas.{fitting_split, fitting_whole, sum_by-fitting-front, start_past, start_before, start_after}
 use Rattle.srb_text.proofs.LineLemmas.{AreLines-lines}
@@ -40,13 +41,13 @@ drop-encodes text at h =
     ap (drop at) parts ∙ drop_at (encodes front) (encodes rest) at (length-encodes front ∙ h)
 
 -- the units before an offset in a line, which is a start or after the line's characters
-units_before : (content : List ℕ) (at : ℕ) → IsStart content at ⊎ (byte_len content ≤ at) → sum_by units_at (fitting one at (encodes content)) ≡ sum_by len_utf16 (fitting len_utf8 at content)
-units_before content at h =
-    ap (sum_by units_at) (fitting-one at (encodes content)
+units_before : (enc : Encoding) (content : List ℕ) (at : ℕ) → IsStart content at ⊎ (byte_len content ≤ at) → sum_by (weight_at enc) (fitting one at (encodes content)) ≡ sum_by (weight_of enc) (fitting len_utf8 at content)
+units_before enc content at h =
+    ap (sum_by (weight_at enc)) (fitting-one at (encodes content)
     ∙ ⊎_elim (λ (s : IsStart content at). take-encodes content at s)
     (λ (b : byte_len content ≤ at). take_all at (encodes content) (omega (arith, length-encodes content, b)) ∙ ap encodes (sym (fitting_whole len_utf8 at content b)))
     h)
-    ∙ sum_by-units-encodes (fitting len_utf8 at content)
+    ∙ sum_by-units-encodes enc (fitting len_utf8 at content)
 
 -- a start is no further than the text's end
 pub start_within : (text : List ℕ) (at : ℕ) → IsStart text at → at ≤ byte_len text
@@ -77,34 +78,34 @@ pub start_in_line : (text rest : List ℕ) (l : Line) (at : ℕ) → IsFirstLine
 start_in_line text rest l at h s =
     in_first l.content (l.ending ++ rest) at (subst (λ (v : List ℕ). IsStart v at) (h.whole ∙ append_assoc l.content l.ending rest) s)
 
-pub position-encodes : (ls : List Line) (text : List ℕ) (number at : ℕ) → AreLines text ls → IsStart text at → position_in one units_at number at (map encoded ls) ≡ position_in len_utf8 len_utf16 number at ls
-position-encodes [] text number at h s = absurd h
-position-encodes (l ∷ []) text number at h s = ap (place_at number) (units_before l.content at (inl (subst (λ (v : List ℕ). IsStart v at) h.whole s)))
-position-encodes (l ∷ m ∷ ls) text number at h s =
+pub position-encodes : (enc : Encoding) (ls : List Line) (text : List ℕ) (number at : ℕ) → AreLines text ls → IsStart text at → position_in one (weight_at enc) number at (map encoded ls) ≡ position_in len_utf8 (weight_of enc) number at ls
+position-encodes enc [] text number at h s = absurd h
+position-encodes enc (l ∷ []) text number at h s = ap (place_at number) (units_before enc l.content at (inl (subst (λ (v : List ℕ). IsStart v at) h.whole s)))
+position-encodes enc (l ∷ m ∷ ls) text number at h s =
     let size = size-encoded l in
     place_step at (line_size one (encoded l)) (line_size len_utf8 l) _ _ _ _ size
-    (λ lt. ap (place_at number) (units_before l.content at (start_in_line text h.0 l at h.1 s)))
-    (λ ge. ap (λ (k : ℕ). position_in one units_at (number + 1) (at - k) (map encoded (m ∷ ls))) size
-    ∙ position-encodes (m ∷ ls) h.0 (number + 1) (at - line_size len_utf8 l) h.2 (start_in_rest text h.0 l at h.1 ge s))
+    (λ lt. ap (place_at number) (units_before enc l.content at (start_in_line text h.0 l at h.1 s)))
+    (λ ge. ap (λ (k : ℕ). position_in one (weight_at enc) (number + 1) (at - k) (map encoded (m ∷ ls))) size
+    ∙ position-encodes enc (m ∷ ls) h.0 (number + 1) (at - line_size len_utf8 l) h.2 (start_in_rest text h.0 l at h.1 ge s))
 
-pub offset-encodes : (ls : List Line) (number unit : ℕ) → offset_in one units_at number unit (map encoded ls) ≡ offset_in len_utf8 len_utf16 number unit ls
-offset-encodes [] number unit = refl
-offset-encodes (l ∷ ls) zero unit =
-    ap (sum_by one) (fitting-encodes unit l.content) ∙ sum_by-one (encodes (fitting len_utf16 unit l.content)) ∙ length-encodes (fitting len_utf16 unit l.content)
-offset-encodes (l ∷ ls) (suc number) unit = ap₂ (λ (x y : ℕ). x + y) (size-encoded l) (offset-encodes ls number unit)
+pub offset-encodes : (enc : Encoding) (ls : List Line) (number unit : ℕ) → offset_in one (weight_at enc) number unit (map encoded ls) ≡ offset_in len_utf8 (weight_of enc) number unit ls
+offset-encodes enc [] number unit = refl
+offset-encodes enc (l ∷ ls) zero unit =
+    ap (sum_by one) (fitting-encodes enc unit l.content) ∙ sum_by-one (encodes (fitting (weight_of enc) unit l.content)) ∙ length-encodes (fitting (weight_of enc) unit l.content)
+offset-encodes enc (l ∷ ls) (suc number) unit = ap₂ (λ (x y : ℕ). x + y) (size-encoded l) (offset-encodes enc ls number unit)
 
 -- places in a text by the bytes that spell it
-pub position_is : (text bytes : List ℕ) (at : ℕ) → encodes text ≡ bytes → IsStart text at → position_in one units_at 0 at (lines bytes) ≡ position_of len_utf16 text at
-position_is text bytes at e s =
-    ap (λ (v : List ℕ). position_in one units_at 0 at (lines v)) (sym e)
-    ∙ ap (position_in one units_at 0 at) (lines-encodes text)
-    ∙ position-encodes (lines text) text 0 at (AreLines-lines text) s
+pub position_is : (enc : Encoding) (text bytes : List ℕ) (at : ℕ) → encodes text ≡ bytes → IsStart text at → position_in one (weight_at enc) 0 at (lines bytes) ≡ position_of (weight_of enc) text at
+position_is enc text bytes at e s =
+    ap (λ (v : List ℕ). position_in one (weight_at enc) 0 at (lines v)) (sym e)
+    ∙ ap (position_in one (weight_at enc) 0 at) (lines-encodes text)
+    ∙ position-encodes enc (lines text) text 0 at (AreLines-lines text) s
 
-pub offset_is : (text bytes : List ℕ) (p : Pos) → encodes text ≡ bytes → offset_in one units_at p.line p.unit (lines bytes) ≡ offset_of len_utf16 text p
-offset_is text bytes p e =
-    ap (λ (v : List ℕ). offset_in one units_at p.line p.unit (lines v)) (sym e)
-    ∙ ap (offset_in one units_at p.line p.unit) (lines-encodes text)
-    ∙ offset-encodes (lines text) p.line p.unit
+pub offset_is : (enc : Encoding) (text bytes : List ℕ) (p : Pos) → encodes text ≡ bytes → offset_in one (weight_at enc) p.line p.unit (lines bytes) ≡ offset_of (weight_of enc) text p
+offset_is enc text bytes p e =
+    ap (λ (v : List ℕ). offset_in one (weight_at enc) p.line p.unit (lines v)) (sym e)
+    ∙ ap (offset_in one (weight_at enc) p.line p.unit) (lines-encodes text)
+    ∙ offset-encodes enc (lines text) p.line p.unit
 
 -- an offset that a position names is a start
 front_start : (weight : ℕ → ℕ) (unit : ℕ) (text content rest : List ℕ) → text ≡ content ++ rest → IsStart text (byte_len (fitting weight unit content))
@@ -180,17 +181,17 @@ edited_len text bytes fresh start end e u s f =
     ap length (edited_spells text bytes fresh start end e u s f) ∙ length-encodes (replaced text start end (chars fresh))
 
 -- what an edit of the text's bytes comes to
-pub record Edits (text bytes fresh : List ℕ) (from to : Pos) (start end : ℕ) : Type 0 where
+pub record Edits (enc : Encoding) (text bytes fresh : List ℕ) (from to : Pos) (start end : ℕ) : Type 0 where
   pub start_cut : IsSplitPoint bytes start
   pub end_cut : IsSplitPoint bytes end
-  pub len : length (take start bytes ++ fresh ++ drop end bytes) ≡ byte_len (edited len_utf16 text from to (chars fresh))
-  pub characters : chars (take start bytes ++ fresh ++ drop end bytes) ≡ edited len_utf16 text from to (chars fresh)
+  pub len : length (take start bytes ++ fresh ++ drop end bytes) ≡ byte_len (edited (weight_of enc) text from to (chars fresh))
+  pub characters : chars (take start bytes ++ fresh ++ drop end bytes) ≡ edited (weight_of enc) text from to (chars fresh)
 
-pub edits : (text bytes fresh : List ℕ) (from to : Pos) (start end : ℕ) → encodes text ≡ bytes → all_scalars text ≡ true → IsUtf8 fresh → start ≡ offset_of len_utf16 text from → end ≡ offset_of len_utf16 text to → Edits text bytes fresh from to start end
-edits text bytes fresh from to start end e t u s f =
-    let at_start : IsStart text start = subst (IsStart text) (sym s) (offset_start len_utf16 text from) in
-    let at_end : IsStart text end = subst (IsStart text) (sym f) (offset_start len_utf16 text to) in
-    let same : replaced text start end (chars fresh) ≡ edited len_utf16 text from to (chars fresh) = ap₂ (λ (x y : ℕ). replaced text x y (chars fresh)) s f in
+pub edits : (enc : Encoding) (text bytes fresh : List ℕ) (from to : Pos) (start end : ℕ) → encodes text ≡ bytes → all_scalars text ≡ true → IsUtf8 fresh → start ≡ offset_of (weight_of enc) text from → end ≡ offset_of (weight_of enc) text to → Edits enc text bytes fresh from to start end
+edits enc text bytes fresh from to start end e t u s f =
+    let at_start : IsStart text start = subst (IsStart text) (sym s) (offset_start (weight_of enc) text from) in
+    let at_end : IsStart text end = subst (IsStart text) (sym f) (offset_start (weight_of enc) text to) in
+    let same : replaced text start end (chars fresh) ≡ edited (weight_of enc) text from to (chars fresh) = ap₂ (λ (x y : ℕ). replaced text x y (chars fresh)) s f in
     record {
       start_cut = cut_at_start text bytes start t e at_start;
       end_cut = cut_at_start text bytes end t e at_end;

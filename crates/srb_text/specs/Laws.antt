@@ -3,7 +3,8 @@ use Rattle.std.specs.Prelude.{◌≡◌, ℕ, ◌+◌, ◌-◌, ◌<◌, ◌≤�
 use Rattle.std.specs.Str.{encode_utf8_all, IsCharBoundary}
 use Rattle.srb_text.specs.Edits.{edited}
 use Rattle.srb_text.specs.Lines.{Line, LINE_FEED, CARRIAGE_RETURN, lines, AreLines}
-use Rattle.srb_text.specs.Positions.{byte_len, position_of, offset_of, IsStart, IsAtMost}
+use Rattle.srb_text.specs.Positions.{byte_len, position_of, offset_of, weight_of, IsStart, IsAtMost}
+use Rattle.srb_text.specs.declared.Encoding.{Encoding}
 use Rattle.srb_text.specs.declared.Pos.{Pos}
 
 -- each text is cut into lines in one way, and `lines` gives it
@@ -35,6 +36,10 @@ pub record IsInsideLineEnd (text : List ℕ) (at : ℕ) : Type 0 where
 -- each character weighs something
 abbrev pub IsWeight : (ℕ → ℕ) → Type 0
 IsWeight weight = (c : ℕ) → 0 < weight c
+
+-- so it does in each encoding
+abbrev pub EncodingsWeigh : Type 0
+EncodingsWeigh = (e : Encoding) → IsWeight (weight_of e)
 
 -- a start comes back from its position, but one inside a line's end
 abbrev pub OffsetsComeBack : Type 0

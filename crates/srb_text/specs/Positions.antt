@@ -6,6 +6,8 @@ use Rattle.std.specs.Prelude.{◌≡◌, ℕ, zero, suc, ◌+◌, ◌-◌, ◌<�
 use Rattle.std.specs.List.{sum_by}
 use Rattle.std.specs.Char.{len_utf8}
 use Rattle.srb_text.specs.Lines.{Line, lines}
+use Rattle.srb_text.specs.declared.Encoding.{Encoding}
+use Rattle.srb_text.specs.declared.Encoding.TheVariants.{Utf8, Utf16, Utf32}
 use Rattle.srb_text.specs.declared.Pos.{Pos}
 
 -- how many 16-bit units a character has in UTF-16
@@ -15,6 +17,12 @@ len_utf16 c = if nat_lt c 0x1_0000 then 1 else 2
 -- the size or the weight of a character where each counts one
 abbrev pub one : ℕ → ℕ
 one c = 1
+
+-- what a character counts in a line's places
+abbrev pub weight_of : Encoding → ℕ → ℕ
+weight_of Utf8 = len_utf8
+weight_of Utf16 = len_utf16
+weight_of Utf32 = one
 
 -- the characters at the text's front that fit into a budget, by what each takes of it
 abbrev pub fitting : (ℕ → ℕ) → ℕ → List ℕ → List ℕ

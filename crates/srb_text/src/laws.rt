@@ -1,5 +1,5 @@
 //! Laws of the definitions: what a reader expects of lines, positions and edits.
-ghost use Rattle.srb_text.specs.Laws.{LinesAreUnique, StartsEndFronts, StartsAreBoundaries, OffsetsComeBack, PositionsRise, OffsetsRise, OffsetsAreStarts, EmptyEditsKeep, EditsHaveSizes};
+ghost use Rattle.srb_text.specs.Laws.{LinesAreUnique, StartsEndFronts, StartsAreBoundaries, EncodingsWeigh, OffsetsComeBack, PositionsRise, OffsetsRise, OffsetsAreStarts, EmptyEditsKeep, EditsHaveSizes};
 
 /// Each text is cut into lines in one way.
 pub fn lines_are_unique()
@@ -14,6 +14,11 @@ pub fn starts_end_fronts()
 /// A start is where the UTF-8 of the text may be cut.
 pub fn starts_are_boundaries()
     ensures { StartsAreBoundaries }
+{}
+
+/// Each character counts something in each encoding.
+pub fn encodings_weigh()
+    ensures { EncodingsWeigh }
 {}
 
 /// A start comes back from its position, but one between the two characters of a line's end.

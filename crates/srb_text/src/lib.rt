@@ -1,9 +1,10 @@
 //! Texts, and positions and edits in them.
 //!
 //! A `Text` is UTF-8 and is seen as the list of its characters. Offsets count bytes. A `Pos` counts lines, and
-//! in a line UTF-16 units, as the Language Server Protocol does (LSP 3.17, "Position"): `offset`, `pos` and
-//! `splice` are the definitions `offset_of`, `position_of` and `edited`, which are over a plain list of
-//! characters and generic in what a character weighs.
+//! in a line the units of an `Encoding`, as the Language Server Protocol does (LSP 3.17, "Position" and
+//! "PositionEncodingKind"): `offset`, `pos` and `splice` are the definitions `offset_of`, `position_of` and
+//! `edited`, which are over a plain list of characters and generic in what a character weighs; `weight_of` is
+//! what it weighs in each encoding.
 #![tactic(auto)]
 
 ghost use Rattle.std.specs.Prelude.{◌≡◌, ◌+◌, ◌<◌, ◌≤◌, length, true, IfOk, IfErr, OnOk, OnErr, MatchResult};
@@ -11,7 +12,7 @@ ghost use Rattle.std.specs.Str.{IsUtf8, all_scalars, chars, encode_utf8_all};
 ghost use Rattle.srb_text.specs.Edits.{edited, IsEditFault};
 ghost use Rattle.srb_text.specs.Faults.{IsTextFault};
 ghost use Rattle.srb_text.specs.Limits.{MOST_BYTES};
-ghost use Rattle.srb_text.specs.Positions.{byte_len, len_utf16, offset_of, position_of, IsStart};
+ghost use Rattle.srb_text.specs.Positions.{byte_len, offset_of, position_of, weight_of, IsStart};
 
 pub mod laws;
 mod places;
@@ -24,7 +25,18 @@ use std::marker::Model;
 /// The most bytes that all texts of a project have together, so also the most bytes of one text.
 pub const BYTES_LIMIT: usize = 16_777_216;
 
-/// A place in a text: the number of a line, and in it a number of UTF-16 units. Both begin at 0.
+/// The units in which places in a line are counted (LSP 3.17, "PositionEncodingKind").
+#[derive(Clone, Copy, Debug, PartialEq, Eq)]
+pub enum Encoding {
+    /// Bytes of UTF-8: 1 to 4 for a character.
+    Utf8,
+    /// UTF-16 code units: 1 or 2 for a character.
+    Utf16,
+    /// Characters: 1 for each.
+    Utf32,
+}
+
+/// A place in a text: the number of a line, and in it a number of units of an encoding. Both begin at 0.
 #[derive(Clone, Copy, Debug, PartialEq, Eq)]
 pub struct Pos {
     pub line: u32,
@@ -97,31 +109,38 @@ impl Text {
 
     /// The offset in bytes that a position names. After a line's last character it is where the line's end
     /// begins, inside a character where that starts, and for a line after the last the text's end.
-    pub fn offset(&self, p: Pos) -> u32
-        ensures offset { result ≡ offset_of len_utf16 self.now p }
+    pub fn offset(&self, p: Pos, encoding: Encoding) -> u32
+        ensures offset { result ≡ offset_of (weight_of encoding) self.now p }
         ensures start { IsStart self.now result }
     {
-        places::offset_in(self.starts.as_slice(), self.text.as_bytes(), p)
+        places::offset_in(self.starts.as_slice(), self.text.as_bytes(), p, encoding)
     }
 
     /// The position of an offset in bytes. Between the two characters of a line's end it is where that begins.
-    pub fn pos(&self, at: u32) -> Pos
+    pub fn pos(&self, at: u32, encoding: Encoding) -> Pos
         requires { IsStart self.now at }
-        ensures { result ≡ position_of len_utf16 self.now at }
+        ensures { result ≡ position_of (weight_of encoding) self.now at }
     {
-        places::position_in(self.starts.as_slice(), self.text.as_bytes(), at)
+        places::position_in(self.starts.as_slice(), self.text.as_bytes(), at, encoding)
     }
 
     /// Puts `new` in the place of what stands between two positions. After an error the text is as it was.
-    pub fn splice(&mut self, alloc: Global, from: Pos, to: Pos, new: &str) -> Result<(), EditFault>
-        requires { offset_of len_utf16 self.old from ≤ offset_of len_utf16 self.old to → byte_len (edited len_utf16 self.old from to (chars new.now)) ≤ MOST_BYTES }
-        ensures edited { OnOk result (self.new ≡ edited len_utf16 self.old from to (chars new.now)) }
-        ensures ordered { OnOk result (offset_of len_utf16 self.old from ≤ offset_of len_utf16 self.old to) }
-        ensures fault { IfErr result (IsEditFault (offset_of len_utf16 self.old from) (offset_of len_utf16 self.old to)) }
+    pub fn splice(
+        &mut self,
+        alloc: Global,
+        from: Pos,
+        to: Pos,
+        new: &str,
+        encoding: Encoding,
+    ) -> Result<(), EditFault>
+        requires { offset_of (weight_of encoding) self.old from ≤ offset_of (weight_of encoding) self.old to → byte_len (edited (weight_of encoding) self.old from to (chars new.now)) ≤ MOST_BYTES }
+        ensures edited { OnOk result (self.new ≡ edited (weight_of encoding) self.old from to (chars new.now)) }
+        ensures ordered { OnOk result (offset_of (weight_of encoding) self.old from ≤ offset_of (weight_of encoding) self.old to) }
+        ensures fault { IfErr result (IsEditFault (offset_of (weight_of encoding) self.old from) (offset_of (weight_of encoding) self.old to)) }
         ensures unchanged { OnErr result (self.new ≡ self.old) }
     {
-        let start = self.offset(from);
-        let end = self.offset(to);
+        let start = self.offset(from, encoding);
+        let end = self.offset(to, encoding);
         if end < start {
             return Err(EditFault::Backwards { start, end });
         }

@@ -13,17 +13,17 @@ returns-in_err-text-in-None-clause-refused c =
     let e = c.in_err-text-in-None.field-0.0 in
     let words = c.args.change.now.text in
     let size = ap length c.new_text.ensures.spelled in
-    err_is c.from_residual.result e _ c.from_residual.ensures.1 (λ other agreed.
+    err_is c.from_residual.result e _ c.from_residual.ensures.1 (λ other.
     let why = c.in_err-text-in-None.ensures.refused other in
-    ap (sized_text c.args.others) (plain_change agreed c.args.text.now c.args.change.now c.in-None.is)
+    ap (sized_text c.args.others) (plain_change c.args.encoding c.args.text.now c.args.change.now c.in-None.is)
     ∙ sized_big c.args.others (chars words) (omega (arith, size, why.1))
     ∙ ap (λ n. Err (TooBig n)) (omega (arith, size)) ∙ ap Err (sym why.0))
 
 pub returns-in_ok-text-in-None-clause-changed : goal.returns-in_ok-text-in-None-clause-changed
-returns-in_ok-text-in-None-clause-changed c = λ agreed.
+returns-in_ok-text-in-None-clause-changed c =
     let words = c.args.change.now.text in
     let size = ap length c.new_text.ensures.spelled in
-    ap (sized_text c.args.others) (plain_change agreed c.args.text.now c.args.change.now c.in-None.is)
+    ap (sized_text c.args.others) (plain_change c.args.encoding c.args.text.now c.args.change.now c.in-None.is)
     ∙ sized_ok c.args.others (chars words) (omega (arith, size, c.in_ok-text-in-None.ensures.fits))
     ∙ ap Ok (sym c.in_ok-text-in-None.ensures.made)
 
@@ -35,11 +35,11 @@ returns-in_ok-text-in-None-clause-fits c =
 pub returns-in-Some-clause-changed : goal.returns-in-Some-clause-changed
 returns-in-Some-clause-changed c =
     on_ok_map c.replace.result _ _
-    (λ step agreed. ap (sized_text c.args.others) (range_change agreed c.args.text.now c.args.change.now c.in-Some.from c.in-Some.to c.in-Some.is) ∙ step agreed)
+    (λ step. ap (sized_text c.args.others) (range_change c.args.encoding c.args.text.now c.args.change.now c.in-Some.from c.in-Some.to c.in-Some.is) ∙ step)
     c.replace.ensures.changed
 
 pub returns-in-Some-clause-refused : goal.returns-in-Some-clause-refused
 returns-in-Some-clause-refused c =
     if_err_map c.replace.result _ _
-    (λ e step other agreed. ap (sized_text c.args.others) (range_change agreed c.args.text.now c.args.change.now c.in-Some.from c.in-Some.to c.in-Some.is) ∙ step other agreed)
+    (λ e step other. ap (sized_text c.args.others) (range_change c.args.encoding c.args.text.now c.args.change.now c.in-Some.from c.in-Some.to c.in-Some.is) ∙ step other)
     c.replace.ensures.refused

@@ -9,17 +9,16 @@ use Rattle.lsp_docs.proofs.changes.changed.Goals as goal
 pub changes-init : goal.changes-init
 changes-init c =
     let same = c.in_ok-now.ensures ∙ ap chars c.as_str.ensures.bytes ∙ spelled_back c.args.text.now c.as_str.ensures.scalars in (
-      λ agreed. ap (λ t. after_changes agreed c.args.others t c.args.changes.now) same,
+      ap (λ t. after_changes c.args.encoding c.args.others t c.args.changes.now) same,
       subst (λ t. sum_with c.args.others t ≤ MOST_BYTES) (sym same) c.requires,
     )
 
 pub changes-preserved : goal.changes-preserved
 changes-preserved c =
     let list = c.args.changes.now in (
-      λ agreed.
-          sym (ap (after_changes agreed c.args.others c.changes.now) (drop_next list c.changes.change-index c.change-item.result c.changes-test.true c.change-item.is)
-          ∙ next_change agreed c.args.others c.changes.now c.apply_change.new.text c.change-item.result (drop (c.changes.change-index + 1) list) (c.in_ok-apply_change.ensures.changed agreed))
-          ∙ c.changes.invariant.0 agreed,
+          sym (ap (after_changes c.args.encoding c.args.others c.changes.now) (drop_next list c.changes.change-index c.change-item.result c.changes-test.true c.change-item.is)
+          ∙ next_change c.args.encoding c.args.others c.changes.now c.apply_change.new.text c.change-item.result (drop (c.changes.change-index + 1) list) (c.in_ok-apply_change.ensures.changed))
+          ∙ c.changes.invariant.0,
       c.in_ok-apply_change.ensures.fits,
     )
 

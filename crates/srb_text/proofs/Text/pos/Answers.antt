@@ -12,4 +12,4 @@ position_in-requires-clause-within c =
 pub returns : goal.returns
 returns c =
     let spells = view_spells _ _ (IsUtf8-string_bytes c.self.inside.text) c.self.view_is in
-    c.position_in.ensures ∙ position_is _ _ c.args.at (spells.0 ∙ sym c.as_bytes.ensures.value) c.requires
+    c.position_in.ensures ∙ position_is c.args.encoding _ _ c.args.at (spells.0 ∙ sym c.as_bytes.ensures.value) c.requires

@@ -9,4 +9,4 @@ returns-in_err-open-clause-refused c =
     let e = c.in_err-open.field-0.0 in
     err_is c.from_residual-in_err-open.result e _ c.from_residual-in_err-open.ensures.1 (λ other.
     named_is c.args.self.now c.args.uri.now c.in_ok-path.path (opens c.args.self.now c.args.text.now) c.in_ok-path.ensures.named
-    ∙ subst (λ d. opens d c.args.text.now c.in_ok-path.path ≡ Err e) c.self.view_is (c.in_err-open.ensures.refused other (record { root = c.self.inside.root })))
+    ∙ subst (λ d. opens d c.args.text.now c.in_ok-path.path ≡ Err e) c.self.view_is (c.in_err-open.ensures.refused other (record { root = c.self.inside.root; encoding = c.self.inside.encoding })))

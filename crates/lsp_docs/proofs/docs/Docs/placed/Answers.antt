@@ -1,5 +1,6 @@
 use Rattle.std.proofs.Common.{◌≡◌, [], map, refl, sym, ap, ◌∙◌}
 use Rattle.std.specs.Prelude.{unwrap_or, encode_utf8_all}
+use Rattle.srb_text.specs.declared.Encoding.{Encoding}
 use Rattle.srb_terms.specs.Projects.{bytes_at}
 use Rattle.lsp_docs.specs.Documents.{Documents, placed}
 use Rattle.lsp_docs.specs.Rows.{present_of, project_of}
@@ -19,12 +20,15 @@ returns-in-Some c =
     ap (λ o. unwrap_or o []) (ap (λ (d : Documents). bytes_at c.args.path.now d.project) (sym c.self.view_is)
     ∙ ap (λ f. bytes_at f (project_of rows)) (sym found.1.path)
     ∙ bytes_here present_of rows c.in-Some.field-0-0 found.0 c.find_open.ensures.ordered found.1.here ∙ present_is found.0 c.in-Some.text.now found.2) in
-    if_ok_map c.placed.result _ _ (λ list is. is c.args.self.now.agreed ∙ ap (λ b. map (placed c.args.self.now.agreed b) c.args.errors.now) (sym bytes)) c.placed.ensures
+    let units = ap (λ (d : Documents). d.agreed.encoding) c.self.view_is in
+    if_ok_map c.placed.result _ _ (λ list is. is ∙ ap (λ (x : Encoding). map (placed x (encode_utf8_all c.in-Some.text.now)) c.args.errors.now) units ∙ ap (λ b. map (placed c.args.self.now.agreed.encoding b) c.args.errors.now) (sym bytes)) c.placed.ensures
 
 pub returns-in_ok-text-in-None : goal.returns-in_ok-text-in-None
 returns-in_ok-text-in-None c =
     let bytes : c.unwrap_or.result.now ≡ unwrap_or (bytes_at c.args.path.now c.args.self.now.project) [] =
     ap (λ b. b.now) c.unwrap_or.ensures ∙ copied_or c.bytes.result _ ∙ ap (λ o. unwrap_or o []) c.bytes.ensures.bytes in
-    if_ok_map c.placed-in-None.result _ _ (λ list is. is c.args.self.now.agreed
-    ∙ placed_again c.args.self.now.agreed c.unwrap_or.result.now c.in_ok-text-in-None.text c.args.errors.now c.in_ok-text-in-None.ensures
-    ∙ ap (λ b. map (placed c.args.self.now.agreed b) c.args.errors.now) bytes) c.placed-in-None.ensures
+    let units = ap (λ (d : Documents). d.agreed.encoding) c.self.view_is in
+    if_ok_map c.placed-in-None.result _ _ (λ list is. is
+    ∙ ap (λ (x : Encoding). map (placed x (encode_utf8_all c.in_ok-text-in-None.text)) c.args.errors.now) units
+    ∙ placed_again c.args.self.now.agreed.encoding c.unwrap_or.result.now c.in_ok-text-in-None.text c.args.errors.now c.in_ok-text-in-None.ensures
+    ∙ ap (λ b. map (placed c.args.self.now.agreed.encoding b) c.args.errors.now) bytes) c.placed-in-None.ensures

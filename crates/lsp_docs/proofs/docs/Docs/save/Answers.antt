@@ -9,4 +9,4 @@ returns-in_err-save-clause-refused c =
     let e = c.in_err-save.field-0.0 in
     err_is c.from_residual-in_err-save.result e _ c.from_residual-in_err-save.ensures.1 (λ other.
     named_is c.args.self.now c.args.uri.now c.in_ok-path.path (if_open c.args.self.now (λ f. Ok (Saves f))) c.in_ok-path.ensures.named
-    ∙ subst (λ d. if_open d (λ f. Ok (Saves f)) c.in_ok-path.path ≡ Err e) c.self.view_is (c.in_err-save.ensures.refused other (record { root = c.self.inside.root })))
+    ∙ subst (λ d. if_open d (λ f. Ok (Saves f)) c.in_ok-path.path ≡ Err e) c.self.view_is (c.in_err-save.ensures.refused other (record { root = c.self.inside.root; encoding = c.self.inside.encoding })))
