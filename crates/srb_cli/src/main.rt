@@ -6,6 +6,8 @@ mod command;
 #[cfg(test)]
 mod command_tests;
 mod commands;
+#[cfg(test)]
+mod encoding_tests;
 mod folder;
 #[cfg(test)]
 mod folder_tests;
