@@ -12,6 +12,7 @@ use Rattle.lsp_docs.specs.Paths.{Path, Bytes, has, with_path, without_path}
 use Rattle.lsp_docs.specs.Projects.{Project, Edit, paths_of, with_bytes, after_edit, total_bytes}
 use Rattle.lsp_docs.specs.Documents.{Agreed, Documents, Deed, MOST_FILES, IsDoneFor, after_change, after_deed, agreed_by, no_documents, changes, changes_now, closes, if_open, opens, path_of, sized, where_named}
 use Rattle.srb_text.specs.Limits.{MOST_BYTES}
+use Rattle.srb_text.specs.declared.Encoding.{Encoding}
 use Rattle.lsp_docs.specs.Changes.{after_changes, sized_text, sum_with}
 use Rattle.lsp_docs.specs.Rows.{present_of, present_with, size_of, reading, project_of, documents_of, closed_row, opened_row, saved_row, AreRows, IsPlaceOf}
 use Rattle.lsp_docs.proofs.RowLemmas.{Turned, of_row, paths_of-with_bytes, turned-reading, turned-same, turned-with, turned-paths, turned_set, turned_removed, turned_inserted, turned_none, length-project_of}
@@ -163,9 +164,9 @@ changes_from d f cs (Err e) = Err e
 changes_from d f cs (Ok new) =
     changes_rest d f new cs (sized d (record { path = f; now = Some (encode_utf8_all new) }) d.opened)
 
-abbrev texts_rest : Agreed → ℕ → List Change → Result (List ℕ) DocEnd → Result (List ℕ) DocEnd
-texts_rest agreed others cs (Err e) = Err e
-texts_rest agreed others cs (Ok new) = after_changes agreed others new cs
+abbrev texts_rest : Encoding → ℕ → List Change → Result (List ℕ) DocEnd → Result (List ℕ) DocEnd
+texts_rest encoding others cs (Err e) = Err e
+texts_rest encoding others cs (Ok new) = after_changes encoding others new cs
 
 pub changes_are : (d : Documents) (f : Path) (others : ℕ) → ((b : Bytes) → total_bytes (put_file f b d.project) ≡ others + length b)
     → (cs : List Change) (text : List ℕ) → changes d f text cs ≡ deed_of d f (after_changes d.agreed.encoding others text cs)
@@ -174,12 +175,12 @@ changes_are d f others totals (c ∷ cs) text = by (after_change d.agreed.encodi
   where
     by_size : (new : List ℕ) (b : Bool) → changes d f new cs ≡ deed_of d f (after_changes d.agreed.encoding others new cs)
         → changes_rest d f new cs (if b then Err (TooBig (sum_with others new)) else Ok (Deed.Edits (record { path = f; now = Some (encode_utf8_all new) }) d.opened))
-        ≡ deed_of d f (texts_rest d.agreed others cs (if b then Err (TooBig (sum_with others new)) else Ok new))
+        ≡ deed_of d f (texts_rest d.agreed.encoding others cs (if b then Err (TooBig (sum_with others new)) else Ok new))
     by_size new true rest = refl
     by_size new false rest = rest
 
     by : (r : Result (List ℕ) DocEnd) → ((new : List ℕ) → changes d f new cs ≡ deed_of d f (after_changes d.agreed.encoding others new cs))
-        → changes_from d f cs r ≡ deed_of d f (texts_rest d.agreed others cs (sized_text others r))
+        → changes_from d f cs r ≡ deed_of d f (texts_rest d.agreed.encoding others cs (sized_text others r))
     by (Err e) rest = refl
     by (Ok new) rest =
         ap (λ n. changes_rest d f new cs (if nat_lt MOST_BYTES n then Err (TooBig n) else Ok (Deed.Edits (record { path = f; now = Some (encode_utf8_all new) }) d.opened))) (totals (encode_utf8_all new))

@@ -9,8 +9,8 @@ ghost use Rattle.run_core.specs.Sessions.{answer_of, method_of, reason_of, when_
 
 use lsp_docs::DocEnd;
 use lsp_msg::{
-    INVALID_PARAMS, INVALID_REQUEST, Id, METHOD_NOT_FOUND, Msg, Out, Reason, SERVER_NOT_INITIALIZED,
-    chosen_encoding,
+    INVALID_PARAMS, INVALID_REQUEST, Id, METHOD_NOT_FOUND, Msg, Out, Reason,
+    SERVER_NOT_INITIALIZED, chosen_encoding,
 };
 use srb_terms::{NoMemory, Words};
 use std::alloc::Global;

@@ -152,11 +152,14 @@ impl Core {
         ensures err { OnErr result (self.new ≡ self.old) }
     {
         if let Msg::Initialize {
-            root, encodings, ..
+            root,
+            encodings,
+            ..
         } = &msg
         {
             self.docs.set_root(alloc, root.as_ref())?;
-            self.docs.set_encoding(chosen_encoding(encodings.as_slice()));
+            self.docs
+                .set_encoding(chosen_encoding(encodings.as_slice()));
             self.phase = Phase::Serving;
             self.stale = true;
         }

@@ -16,7 +16,7 @@ changes-init c =
 pub changes-preserved : goal.changes-preserved
 changes-preserved c =
     let list = c.args.changes.now in (
-          sym (ap (after_changes c.args.encoding c.args.others c.changes.now) (drop_next list c.changes.change-index c.change-item.result c.changes-test.true c.change-item.is)
+      sym (ap (after_changes c.args.encoding c.args.others c.changes.now) (drop_next list c.changes.change-index c.change-item.result c.changes-test.true c.change-item.is)
           ∙ next_change c.args.encoding c.args.others c.changes.now c.apply_change.new.text c.change-item.result (drop (c.changes.change-index + 1) list) (c.in_ok-apply_change.ensures.changed))
           ∙ c.changes.invariant.0,
       c.in_ok-apply_change.ensures.fits,
