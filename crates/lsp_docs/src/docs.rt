@@ -76,13 +76,6 @@ impl Docs {
         self.encoding = encoding;
     }
 
-    /// The units of positions.
-    pub fn encoding(&self) -> Encoding
-        ensures { result ≡ self.now.agreed.encoding }
-    {
-        self.encoding
-    }
-
     /// Does what a message about a document does, or says why it is refused: the first refusal that fits. After an
     /// error the documents are as they were.
     pub fn apply(&mut self, alloc: Global, m: &Msg) -> Result<Applied, DocEnd>

@@ -2,9 +2,9 @@
 //! document does to them.
 //!
 //! What a message does, and why it is refused, is the definition `applied`, over `Documents`: the project, the texts
-//! that were saved, the open paths, and what the client and the server agreed on: the root's URI
-//! and the encoding of positions. A path and its URI are tied by
-//! `uri_below` and `path_below`, and the module `law` says that one is read back from the other.
+//! that were saved, the open paths, and what the client and the server agreed on, the root's URI and the encoding of
+//! positions. A path and its URI are tied by `uri_below` and `path_below`, and the module `law` says that one is read
+//! back from the other.
 #![tactic(auto)]
 
 mod applied;
