@@ -6,7 +6,7 @@ use lib.Utf8.{encode}
 use Rattle.percent_encoding.specs.Percent.{percent_decode}
 use Rattle.srb_terms.specs.declared.diag.Diag.{Diag}
 use Rattle.srb_terms.specs.Projects.{bytes_at}
-use Rattle.srb_text.specs.declared.Encoding.TheVariants.{Utf8, Utf16, Utf32}
+use Rattle.srb_text.specs.declared.Encoding.TheVariants.{Utf8, Utf16}
 use Rattle.lsp_msg.specs.declared.id.Id.TheVariants as id
 use Rattle.lsp_msg.specs.declared.msg.Msg.{Msg as Message}
 use Rattle.lsp_msg.specs.declared.msg.Msg.TheVariants as msg
@@ -84,6 +84,11 @@ end = Take (End Exit)
 
 abbrev placed_here : Bytes → Placed
 placed_here text = record { start = record { line = 0; unit = 0 }; end = record { line = 0; unit = 1 }; number = 5002; text = text }
+
+-- the reply names the encoding that the client prefers
+begin_by_bytes : outs toy [] (take (msg.Initialize (id.Number (pos 1)) (Some (codes "file:///p")) (codes "utf-8" ∷ codes "utf-16" ∷ [])) ∷ [])
+    ≡ out.Initialized (id.Number (pos 1)) Utf8 ∷ []
+begin_by_bytes = refl
 
 -- ---- a file is opened in an empty project, and the session ends
 
@@ -376,7 +381,7 @@ other_items legal =
     let may = legal.1.0 in
     let path : may.path ≡ codes "a.rb" = same_path may.path (codes "a.rb") (one_test (bytes_eq may.path (codes "a.rb")) may.known) in
     let right : [] ≡ placed_here (codes "x") ∷ [] =
-    subst (λ f. [] ≡ list_of toy (record { root = codes "file:///p" }) ((codes "a.rb", codes "Ux") ∷ []) f) path may.right in
+    subst (λ f. [] ≡ list_of toy (record { root = codes "file:///p"; encoding = Utf16 }) ((codes "a.rb", codes "Ux") ∷ []) f) path may.right in
     cc
   where
     one_test : (b : Bool) → (b || (b || false)) ≡ true → b ≡ true
