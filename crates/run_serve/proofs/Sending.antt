@@ -1,6 +1,7 @@
 -- What a reader put of what it heard.
 use Rattle.std.proofs.Common.{◌≡◌, inl, inr, ℕ, Bool, true, false, List, [], ◌∷◌, ◌++◌, map, refl, sym, ap, ◌∙◌, subst, append_assoc, append-nil}
 use Rattle.std.specs.Prelude.{Option, None}
+use Rattle.std.specs.Io.KnownBytes.{Consumes}
 use Rattle.std.proofs.KnownBytes.{Consumes-nil}
 use Rattle.std.proofs.lemmas.List.{map-append}
 use Rattle.lsp_frame.specs.Stream.{Stream}
@@ -8,6 +9,7 @@ use Rattle.lsp_msg.specs.declared.msg.Msg.{Msg as Message}
 use Rattle.run_watch.specs.declared.end_cause.EndCause.TheVariants as end
 use Rattle.run_watch.specs.declared.inp.Inp.{Inp}
 use Rattle.run_watch.specs.declared.inp.Inp.TheVariants.{Msg, End}
+use Rattle.run_core.specs.Inputs.{messages_of}
 use Rattle.run_serve.specs.Hearing.{AreSent, Heard, HeardAll, HeardFront, IsGiven, IsHeard, IsReading, ends_messages, is_end, is_exit}
 use Rattle.run_serve.proofs.Hearing.{heard_none, more_heard}
 
@@ -58,6 +60,12 @@ module _ (left_before left : Option (List ℕ)) (before now : ℕ) where
     heard = subst (λ b. Heard left_before left before now stream b (ms ++ m ∷ [])) (sym ends) heard;
     put = put ∙ ap (λ k. k ++ Msg m ∷ []) is ∙ sym (map-append Msg ms (m ∷ []));
   }
+
+-- nothing was read and nothing put
+pub unread : (left left' : Option (List ℕ)) (reads reads' : ℕ) (sent : List Inp) → left' ≡ left → sent ≡ [] → AreSent left left' reads reads' sent
+unread left left' reads reads' sent same none =
+    let gave : Consumes left left' [] = subst (λ l. Consumes left l []) (sym same) (Consumes-nil left) in
+    sent_front left left' reads reads' sent [] none (record { read = []; more = messages_of []; gave = gave; same = refl })
 
 -- before the first input
 pub starts : (left : Option (List ℕ)) (reads : ℕ) (stream : Stream) (sent : List Inp) → stream.pending ≡ [] → stream.at ≡ 0 → stream.ended ≡ None → sent ≡ []

@@ -17,6 +17,7 @@ use crate::serve_end::ServeEnd;
 use crate::turning::coordinate;
 use run_core::Core;
 use run_gate::{Gate, Seat};
+use run_pair::run_beside;
 use run_pool::Hold;
 use run_queues::{Inbox, PutPass, TakePass};
 use run_watch::{EndCause, Trace};
@@ -26,7 +27,7 @@ use std::alloc::Global;
 use std::marker::Brand;
 use std::sync::Wait;
 use std::sync::ledger::{Blank, Ledger};
-use std::thread::{Threads, join_mut};
+use std::thread::Threads;
 
 /// The cause for which a session ends after this end of its input.
 fn cause_of(end: EndCause, accepted: bool) -> Cause
@@ -58,7 +59,8 @@ fn cause_of_stop(stop: ServeEnd) -> Cause
     }
 }
 
-/// Runs the reader and the coordinator beside each other, until both are done.
+/// Runs the reader and the coordinator beside each other, until both are done. Memory ran out too where no thread can be made for the reader:
+/// then nothing is read, and nothing is written.
 fn run_both<
     R: Threads + Wait + Sync,
     S: Source + Send,
@@ -105,8 +107,10 @@ fn run_both<
             rt, alloc, core, inbox, taking, gate, seat, workers, sink, trace, hold, steps,
         )
     };
-    let (_, ended) = join_mut(rt, &mut reader, &mut coordinator);
-    ended
+    match run_beside(rt, &mut reader, &mut coordinator) {
+        Ok((_, ended)) => ended,
+        Err(_) => Err(ServeEnd::NoMemory),
+    }
 }
 
 /// The cause for which a session ends, by how the coordinator stopped and by the end that the core took.
@@ -200,7 +204,7 @@ fn serve_counting<
 }
 
 /// Serves a session over this project: one thread reads messages, and the other does and writes all that follows from them, with so many workers
-/// beside it while a project is checked.
+/// beside it while a project is checked. Where the thread that reads can't be made, memory ran out.
 pub fn serve<
     R: Threads + Wait + Sync,
     S: Source + Send,
