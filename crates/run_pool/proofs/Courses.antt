@@ -1,7 +1,8 @@
 -- How the ends of workers come together.
-use Rattle.std.proofs.Common.{◌≡◌, ℕ, ◌+◌, ◌<◌, ◌^◌, Bool, true, false, ◌||◌, ◌==◌, List, [], ◌∷◌, ◌++◌, length, cond, Result, Ok, Err, OnErr, refl, ap, sym, ◌∙◌, subst, arith, append_assoc, length-append}
+use Rattle.std.proofs.Common.{◌≡◌, ℕ, ◌+◌, ◌<◌, ◌^◌, Bool, true, false, ◌||◌, ◌==◌, List, [], ◌∷◌, ◌++◌, length, cond, Result, Ok, Err, OnErr, refl, ap, sym, ◌∙◌, subst, arith, append-nil, append_assoc, length-append}
 use Rattle.std.proofs.Math.Bool.{or_comm}
 use Rattle.std.proofs.lemmas.Bool.Decides.{nat_tests}
+use Rattle.std.proofs.lemmas.List.Elements.{All-nil}
 use Rattle.std.proofs.lemmas.List.Sums.{sum_by-append, sum_by-cons, sum_by_push}
 use Rattle.std.specs.declared.alloc.AllocError.{AllocError}
 use Rattle.srb_check.specs.Jobs.{Known}
@@ -30,6 +31,35 @@ pub EachNew-push : (job : Known) (gate : Gate) (queue : Places) (places : List P
     → IsNew job gate queue place.seat place.pass → EachNew job gate queue (places ++ place ∷ [])
 EachNew-push job gate queue [] place each new = (new, tt)
 EachNew-push job gate queue (p ∷ places) place each new = (each.0, EachNew-push job gate queue places place each.1 new)
+
+-- a seat that only raised
+abbrev pub OnlyRaised : SeatView → SeatView → Type 0
+OnlyRaised before after = (after.raised ≡ true) × (after.gate ≡ before.gate) × (after.drawn ≡ before.drawn) × (after.left ≡ before.left)
+
+-- a worker that was out of memory before it drew a number
+pub short_at_once : (job : Known) (seat seat' : SeatView) (pass pass' : Showing Known) → seat.raised ≡ false → OnlyRaised seat seat' → pass' ≡ pass
+    → WorksAt job seat seat' pass pass' NoMemory
+short_at_once job seat seat' pass pass' unraised (raised, gate, drawn, left) same = record {
+  hands = record {
+    items = [];
+    rest = [];
+    drew = drawn ∙ sym (append-nil seat.drawn);
+    gives = ap (λ (p : Showing Known). p.gave) same ∙ sym (append-nil pass.gave);
+    files = All-nil (λ n. n < file_count job);
+    right = tt;
+    leaves = (omega arith, All-nil (λ n. n < file_count job));
+  };
+  stopped = tt;
+  raised = raised ∙ ap (λ b. b || true) (sym unraised);
+  keeps_seat = (gate, ([], drawn ∙ sym (append-nil seat.drawn)), ap (λ d. length d + seat'.left) drawn ∙ ap (λ n. length seat.drawn + n) left);
+  keeps_pass = (
+    ap (λ (p : Showing Known). p.queue) same,
+    ap (λ (p : Showing Known). p.view) same,
+    ([], ap (λ (p : Showing Known). p.gave) same ∙ sym (append-nil pass.gave)),
+    ([], ap (λ (p : Showing Known). p.got) same ∙ sym (append-nil pass.got)),
+    ap (λ (p : Showing Known). length p.gave + length p.got + p.left) same,
+  );
+}
 
 -- ---- a seat into which another is joined
 

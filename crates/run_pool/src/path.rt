@@ -15,12 +15,13 @@ use crate::path_end::PathEnd;
 use crate::worker::work_on;
 use crate::worker_end::Why;
 use run_gate::{Gate, Seat};
+use run_pair::run_beside as run_two;
 use run_queues::{ResPass, Results};
 use srb_check::Job;
 use srb_terms::{Boxed, NoMemory};
 use std::alloc::Global;
 use std::sync::Wait;
-use std::thread::{Threads, join_mut};
+use std::thread::Threads;
 
 /// What one worker is given.
 #[derive(Drop)]
@@ -134,7 +135,7 @@ fn run_all<R: Threads + Wait + Sync, H: Hold + Sync, C: Chief>(
     }
 }
 
-// Runs one worker beside all others and the chief.
+// Runs one worker beside all others and the chief. Where it gets no thread it is out of memory: the gate is raised, by which all others end.
 #[cycle(running)]
 fn run_beside<R: Threads + Wait + Sync, H: Hold + Sync, C: Chief>(
     rt: &R,
@@ -170,7 +171,13 @@ fn run_beside<R: Threads + Wait + Sync, H: Hold + Sync, C: Chief>(
             rt, alloc, job, gate, results, hold, chief, places, seat, pass,
         )
     };
-    join_mut(rt, &mut worker, &mut others)
+    match run_two(rt, &mut worker, &mut others) {
+        Ok(both) => both,
+        Err(_) => {
+            gate.raise(given_seat);
+            (Why::NoMemory, others())
+        }
+    }
 }
 
 // Splits off what a worker is given. Without memory all is as it was.

@@ -9,7 +9,7 @@ use Rattle.run_queues.specs.Showings.{Showing}
 use Rattle.srb_check.specs.Jobs.{Known}
 use Rattle.run_pool.specs.declared.path.Place.{Place}
 use Rattle.run_pool.specs.Dealt.{EachNew, Leads}
-use Rattle.run_pool.proofs.Courses.{EachNew-last, one_more}
+use Rattle.run_pool.proofs.Courses.{EachNew-last, one_more, short_at_once}
 use Rattle.run_pool.proofs.Crossing.{closure_send, job_sync, pass_send, results_sync}
 use Rattle.run_pool.proofs.path.+running.Goals as goal
 
@@ -63,10 +63,16 @@ run_all-returns g t c =
     c.join-2.ensures c.is_short_or.ensures)
 
 -- what the closure holds that is sent: the worker's seat and pass, and references to the rest
-pub run_beside-join_mut-requires-send-F : goal.run_beside-join_mut-requires-send-F
-run_beside-join_mut-requires-send-F g t c κs within =
+pub run_beside-run_beside-requires-send-F : goal.run_beside-run_beside-requires-send-F
+run_beside-run_beside-requires-send-F g t c κs within =
     let r : IsSync g.row.R = search rules parts 8 in
     let h : IsSync g.row.H = search rules parts 8 in
     param_send 1 _ (arg_send _ no _ (closure_send _ _ _ _ _ _ _ _ _ (shr_send _ _ _ (param_sync 0 _ r)) (shr_send _ _ _ sync) (shr_send _ _ _ job_sync)
     (shr_send _ _ _ gate.the_sync) (mut_send _ _ _ seat.the_send) (shr_send _ _ _ results_sync) (mut_send _ _ _ pass_send)
     (shr_send _ _ _ (param_sync 1 _ h))))
+
+pub run_beside-returns-in-Err-clause-works : goal.run_beside-returns-in-Err-clause-works
+run_beside-returns-in-Err-clause-works g t c =
+    let r = c.raise.ensures in
+    let unraised = ap (λ (v : SeatView). v.raised) c.requires.given.seat_is in
+    short_at_once _ _ _ _ _ unraised (search (rules, r.raised), search (rules, r.same.0), search (rules, r.same.1), search (rules, r.same.3)) (search rules)
