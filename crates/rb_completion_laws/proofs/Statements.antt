@@ -266,7 +266,7 @@ module _ (nested : Form → Bool → Parser Tree) (ih : Viable nested) (turns : 
   simple-by' constants j js None row = valued constants (j ∷ js)
   simple-by' constants j js (Some word) row = jump-goes constants word j js row
 
-  like-simple-goes : (constants : Bool) (xs : List Token) → Liking xs (simple nested turns free constants xs) (LikeSimple constants free)
+  pub like-simple-goes : (constants : Bool) (xs : List Token) → Liking xs (simple nested turns free constants xs) (LikeSimple constants free)
   unfolding simple
   like-simple-goes constants [] = valued constants []
   like-simple-goes constants (j ∷ js) = simple-by' constants j js (jump_of (Some (shape_of j.kind))) (jumping (shape_of j.kind))
@@ -277,13 +277,13 @@ module _ (nested : Form → Bool → Parser Tree) (ih : Viable nested) (turns : 
   -- ---- modifiers
 
   -- after a statement that is a `begin` only where the flag says so
-  abbrev WithModifiers : Bool → Rel
+  abbrev pub WithModifiers : Bool → Rel
   WithModifiers begins us zs = (s : Tree) → Like begins s → (t : Tree) × DerivesModified free s t us zs
 
   unmodified : (begins : Bool) (zs : List Token) → WithModifiers begins zs zs
   unmodified begins zs s l = (s, Unmodified _ _ _)
 
-  modifiers-stand : (begins : Bool) → Stands (WithModifiers begins)
+  pub modifiers-stand : (begins : Bool) → Stands (WithModifiers begins)
   modifiers-stand begins zs c = record { whole = zs; clear = c; derives = unmodified begins zs }
 
   modifies : (inner : Tree) (word : Modifier) (m : Token) → IsRow MODIFIER_WORDS (shape_of m.kind) word → MayModify word inner → (us zs : List Token) → Seq (ASimple false free) (WithModifiers false) us zs → WithModifiers (is_begin inner) (m ∷ us) zs
@@ -299,7 +299,7 @@ module _ (nested : Form → Bool → Parser Tree) (ih : Viable nested) (turns : 
       go true e = headed m (plainly (seq (answering _ (ih.simple free ms)) (modifiers-stand false) (λ longer ps. plainly (again longer ps) (λ us zs k s l. k s (λ none. l refl)))) (modifies inner word m row (may word inner e)))
       go false e = done inner (m ∷ ms) (unmodified (is_begin inner))
 
-  modifiers-go : (n : ℕ) (inner : Tree) (xs : List Token) → Plain xs (modifiers_from nested turns free n inner xs) (WithModifiers (is_begin inner))
+  pub modifiers-go : (n : ℕ) (inner : Tree) (xs : List Token) → Plain xs (modifiers_from nested turns free n inner xs) (WithModifiers (is_begin inner))
   unfolding modifiers_from modifier_after
   modifiers-go zero inner xs = refusing xs (modifiers-stand (is_begin inner))
   modifiers-go (suc n) inner [] = done inner [] (unmodified (is_begin inner))

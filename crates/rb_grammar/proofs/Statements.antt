@@ -288,7 +288,7 @@ module _ (nested : Form → Bool → Parser Tree) (ih : Sound nested) (turns : �
 
   -- ---- modifiers
 
-  abbrev WithModifiers : Tree → List Token → Tree → List Token → Type 0
+  abbrev pub WithModifiers : Tree → List Token → Tree → List Token → Type 0
   WithModifiers inner xs t ys = DerivesModified free inner t xs ys × Within xs ys × ((span_of t).start ≡ (span_of inner).start)
 
   modifiers-by : (n : ℕ) → ((inner : Tree) (xs : List Token) → Holds (modifiers_from nested turns free n inner xs) (WithModifiers inner xs)) → (inner : Tree) (m : Token) (ms : List Token) (word : Option Modifier) → Allowing inner (shape_of m.kind) word →
@@ -302,7 +302,7 @@ module _ (nested : Form → Bool → Parser Tree) (ih : Sound nested) (turns : �
       let s = subst (λ l. (span_of t).start ≡ (span_of l).start) h.1 k.2 in
       (Modified _ _ _ _ _ _ _ _ _ row.0 row.1 h.2 d, within-token m (within-more h.3 k.1), s ∙ starts _ _ _ (rolls-Modified inner word h.0 (across (span_of inner) (span_of h.0))) refl)))
 
-  modifiers-from : (n : ℕ) (inner : Tree) (xs : List Token) → Holds (modifiers_from nested turns free n inner xs) (WithModifiers inner xs)
+  pub modifiers-from : (n : ℕ) (inner : Tree) (xs : List Token) → Holds (modifiers_from nested turns free n inner xs) (WithModifiers inner xs)
   unfolding modifiers_from modifier_after
   modifiers-from zero inner xs = refused _ _
   modifiers-from (suc n) inner [] = answered (WithModifiers inner []) inner [] (Unmodified _ _ _, within-self _, refl)

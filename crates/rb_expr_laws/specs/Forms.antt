@@ -1,0 +1,45 @@
+-- How far a form reaches that begins at a place of a list of tokens.
+use Rattle.std.specs.Prelude.{◌≡◌, ℕ, ◌≤◌, Bool, true, List, [], ◌∷◌, ◌++◌, length}
+use Rattle.rb_tree.specs.declared.syntax.Tree.{Tree}
+use Rattle.rb_tree.specs.declared.token.Token.{Token}
+use Rattle.rb_weight.specs.Weights.{DeepAt}
+use Rattle.rb_rules.specs.Grammar.{DerivesTerm}
+use Rattle.rb_grammar_laws.specs.Ends.{Ends, BODY_ENDS, TERM_ENDS}
+use Rattle.rb_expr_laws.specs.Bodies.{PlainBody}
+
+-- the two forms: a body without declarations, whose flag says that its own statements may assign to constants, and a term
+pub data Form : Type 0 where
+  Body : Bool → Form
+  Term : Form
+
+-- the first tokens are such a form with this tree, before the second
+abbrev pub IsForm : Form → Tree → List Token → List Token → Type 0
+IsForm (Form.Body constants) t xs ys = PlainBody constants t xs ys
+IsForm Form.Term t xs ys = DerivesTerm true t xs ys
+
+-- The tokens begin such a form: with others after them they are one.
+abbrev pub BeginsForm : Form → List Token → Type 0
+BeginsForm form tokens = (more : List Token) × (t : Tree) × IsForm form t (tokens ++ more) []
+
+-- none begins with these tokens and the next one, if there is a next one
+abbrev pub GoesNoFurther : Form → List Token → List Token → Type 0
+GoesNoFurther form before [] = Unit {0}
+GoesNoFurther form before (next ∷ after) = ¬ BeginsForm form (before ++ next ∷ [])
+
+-- The form reaches over so many tokens: these begin one, and with the next of them none begins.
+pub record Reaches (form : Form) (tokens : List Token) (n : ℕ) : Type 0 where
+  pub before : List Token
+  pub rest : List Token
+  pub whole : tokens ≡ before ++ rest
+  pub number : n ≡ length before
+  pub begins : BeginsForm form before
+  pub no_further : GoesNoFurther form before rest
+
+-- No token is next, or one that may stand after such a form in a program.
+abbrev pub MayFollow : Form → List Token → Type 0
+MayFollow (Form.Body constants) rest = Ends BODY_ENDS true rest
+MayFollow Form.Term rest = Ends TERM_ENDS true rest
+
+-- none of the first so many tokens is too deep, where the weight before them is this one
+abbrev pub NoneIsDeep : List Token → ℕ → ℕ → ℕ → Type 0
+NoneIsDeep tokens weight here n = (turn : ℕ) → DeepAt tokens weight here turn → n ≤ turn

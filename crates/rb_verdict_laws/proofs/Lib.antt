@@ -1,0 +1,4 @@
+pub mod Depths
+pub mod Verdicts
+pub mod Places
+pub mod Examples

@@ -1,0 +1,8 @@
+use Rattle.rb_verdict_laws.proofs.Verdicts.{one-holds, no-two-hold}
+use Rattle.rb_verdict_laws.proofs.one_verdict_holds.Goals as goal
+
+pub returns-clause-one : goal.returns-clause-one
+returns-clause-one c = one-holds
+
+pub returns-clause-only : goal.returns-clause-only
+returns-clause-only c = no-two-hold
