@@ -13,7 +13,7 @@ use Rattle.rb_expr.specs.declared.ParseEnd.TheVariants.{Bad, TooDeep, NoMemory}
 use Rattle.rb_expr.specs.Reading.{Outcome}
 use Rattle.rb_expr.specs.Answers.{answered, answered_by, bad_at, cut, cut_by, ruled, start_at, whole, whole_by}
 use Rattle.rb_expr_laws.specs.Forms.{Form, BeginsForm, IsForm, MayFollow, Reaches}
-use Rattle.rb_expr_laws.specs.Laws.{AnswersSay, DeepFormsAreRefused, FormsAreRead, NoFormsAreRefused, Says, answer_of}
+use Rattle.rb_expr_laws.specs.Laws.{AnswersSay, DeepFormsAreRefused, FormsAreRead, FormsEndThere, NoFormsAreRefused, Says, answer_of}
 use Rattle.rb_expr_laws.proofs.Facts.{ended-begins, ended-further, refused-begins, refused-further}
 use Rattle.rb_expr_laws.proofs.Forms.{facts, reads, rule_of}
 use Rattle.rb_expr_laws.proofs.Reach.{no-more, one-reach, read-reaches, refused-reaches, same-rest}
@@ -197,6 +197,22 @@ forms-are-read form tokens from weight here n t within part light r d follows no
     by (Err (Bad at)) e (m, q, p, no', light') =
         let rest = sym (same-rest form xs m n q r) in
         absurd (no' t (subst (λ us. IsForm form t xs us) rest d) (subst (MayFollow form) rest follows))
+    by (Err (TooDeep at)) e (turn, p, deep, b) = absurd (past-deep form xs weight here turn n deep b r (none turn deep))
+    by (Err NoMemory) e s = absurd (answer-tells form tokens from weight here e)
+
+pub forms-end-there : FormsEndThere
+forms-end-there form tokens from weight here n within part light r none = by (answer_of form tokens from weight here) refl (says form tokens from weight here within part light)
+  where
+    xs : List Token
+    xs = drop from tokens
+
+    by : (a : Result (Tree × ℕ) ParseEnd) → answer_of form tokens from weight here ≡ a → Says form tokens from weight here a →
+        ((t : Tree) × (answer_of form tokens from weight here ≡ Ok (t, from + n))) ⊎ (answer_of form tokens from weight here ≡ Err (Bad (bad_at tokens r.rest)))
+    by (Ok (u, place)) e (m, p, q, du, alone, light') =
+        let number : m ≡ n = one-reach form xs m n q r in
+        let at : place ≡ from + n = omega arith in
+        inl (u, e ∙ ap (λ k. Ok (u, k)) at)
+    by (Err (Bad at)) e (m, q, p, no', light') = inr (e ∙ ap (λ k. Err (Bad k)) (p ∙ ap (bad_at tokens) (same-rest form xs m n q r)))
     by (Err (TooDeep at)) e (turn, p, deep, b) = absurd (past-deep form xs weight here turn n deep b r (none turn deep))
     by (Err NoMemory) e s = absurd (answer-tells form tokens from weight here e)
 

@@ -1,5 +1,5 @@
 -- What `expr` and `tern` answer, in the words of the grammar.
-use Rattle.std.specs.Prelude.{◌≡◌, ℕ, ◌+◌, ◌≤◌, List, [], ◌++◌, length, take, drop, Result, Ok, Err}
+use Rattle.std.specs.Prelude.{◌≡◌, ◌⊎◌, ℕ, ◌+◌, ◌≤◌, List, [], ◌++◌, length, take, drop, Result, Ok, Err}
 use Rattle.rb_tree.specs.declared.syntax.Tree.{Tree}
 use Rattle.rb_tree.specs.declared.token.Token.{Token}
 use Rattle.rb_weight.specs.Limits.{MOST}
@@ -24,7 +24,7 @@ FormsReach = (form : Form) (tokens : List Token) → (n : ℕ) × Reaches form t
 abbrev pub OneReach : Type 0
 OneReach = (form : Form) (tokens : List Token) (m n : ℕ) → Reaches form tokens m → Reaches form tokens n → m ≡ n
 
--- No form is longer: the tokens of none that begins there are more.
+-- No form that begins there has more tokens.
 abbrev pub NoneIsLonger : Type 0
 NoneIsLonger = (form : Form) (tokens xs ys : List Token) (n : ℕ) (t : Tree) → Reaches form tokens n → tokens ≡ xs ++ ys → IsForm form t xs [] → length xs ≤ n
 
@@ -48,6 +48,12 @@ abbrev pub AnswersSay : Type 0
 AnswersSay =
     (form : Form) (tokens : List Token) (from weight here : ℕ) (answer : Result (Tree × ℕ) ParseEnd) → from ≤ length tokens → here ≤ weight → weight ≤ MOST →
     Answers answer (answer_of form tokens from weight here) → Says form tokens from weight here answer
+
+-- Where no token of it is too deep, the tree of the longest form is answered with the place after it, or it is refused there.
+abbrev pub FormsEndThere : Type 0
+FormsEndThere =
+    (form : Form) (tokens : List Token) (from weight here n : ℕ) → from ≤ length tokens → here ≤ weight → weight ≤ MOST → (r : Reaches form (drop from tokens) n) →
+    NoneIsDeep (drop from tokens) weight here n → ((t : Tree) × (answer_of form tokens from weight here ≡ Ok (t, from + n))) ⊎ (answer_of form tokens from weight here ≡ Err (Bad (bad_at tokens r.rest)))
 
 -- The longest form is answered, if it is one, no token of it is too deep, and what is next may follow one.
 abbrev pub FormsAreRead : Type 0

@@ -6,7 +6,7 @@
 #![tactic(auto)]
 
 ghost use Rattle.rb_expr_laws.specs.Examples.{BadIsToldFirst, BodyIsRead, ConstantIsAssigned, NegationIsDeep, OperandIsWanted, TermIsRead};
-ghost use Rattle.rb_expr_laws.specs.Laws.{AnswersSay, DeepFormsAreRefused, FormsAreRead, FormsReach, NoFormsAreRefused, NoneIsLonger, OneReach};
+ghost use Rattle.rb_expr_laws.specs.Laws.{AnswersSay, DeepFormsAreRefused, FormsAreRead, FormsEndThere, FormsReach, NoFormsAreRefused, NoneIsLonger, OneReach};
 
 /// A form that begins at a token reaches over one number of tokens. None is longer.
 pub fn one_form_is_longest()
@@ -21,9 +21,10 @@ pub fn answers_say_what_stands()
     ensures { AnswersSay }
 {}
 
-/// The longest form is answered where what is next may follow it. It is refused where it goes no further and is none, and at the first
-/// too deep token, if a form begins with the tokens up to it.
+/// Where no token of the longest form is too deep, it is answered or refused where it goes no further: answered if it is one and what is
+/// next may follow it, refused if it is none. It is refused at the first too deep token, if a form begins with the tokens up to it.
 pub fn forms_are_answered()
+    ensures either { FormsEndThere }
     ensures read { FormsAreRead }
     ensures refused { NoFormsAreRefused }
     ensures deep { DeepFormsAreRefused }

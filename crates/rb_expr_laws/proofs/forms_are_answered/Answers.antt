@@ -1,5 +1,8 @@
-use Rattle.rb_expr_laws.proofs.Laws.{forms-are-read, no-forms-are-refused, deep-forms-are-refused}
+use Rattle.rb_expr_laws.proofs.Laws.{forms-end-there, forms-are-read, no-forms-are-refused, deep-forms-are-refused}
 use Rattle.rb_expr_laws.proofs.forms_are_answered.Goals as goal
+
+pub returns-clause-either : goal.returns-clause-either
+returns-clause-either c = forms-end-there
 
 pub returns-clause-read : goal.returns-clause-read
 returns-clause-read c = forms-are-read
