@@ -52,3 +52,7 @@ NegationIsDeep =
 -- `1 + *`: the last token is bad, and too deep as well
 abbrev pub BadIsToldFirst : Type 0
 BadIsToldFirst = tern_of (token (kind.Whole (codes "1")) 0 1 ∷ token kind.Plus 2 3 ∷ token kind.Star 4 5 ∷ []) 0 199 0 ≡ Err (Bad 4)
+
+-- `1 rescue`: a `rescue` directly after a statement is refused, though the statement alone is a body
+abbrev pub RescueIsRefused : Type 0
+RescueIsRefused = expr_of (token (kind.Whole (codes "1")) 0 1 ∷ token kind.Rescue 2 8 ∷ []) 0 0 0 false ≡ Err (Bad 2)

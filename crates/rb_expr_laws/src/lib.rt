@@ -5,7 +5,7 @@
 //! answer what holds of the tokens.
 #![tactic(auto)]
 
-ghost use Rattle.rb_expr_laws.specs.Examples.{BadIsToldFirst, BodyIsRead, ConstantIsAssigned, NegationIsDeep, OperandIsWanted, TermIsRead};
+ghost use Rattle.rb_expr_laws.specs.Examples.{BadIsToldFirst, BodyIsRead, ConstantIsAssigned, NegationIsDeep, OperandIsWanted, RescueIsRefused, TermIsRead};
 ghost use Rattle.rb_expr_laws.specs.Laws.{AnswersSay, DeepFormsAreRefused, FormsAreRead, FormsEndThere, FormsReach, NoFormsAreRefused, NoneIsLonger, OneReach};
 
 /// A form that begins at a token reaches over one number of tokens. None is longer.
@@ -38,4 +38,5 @@ pub fn examples_are_answered()
     ensures operand { OperandIsWanted }
     ensures deep { NegationIsDeep }
     ensures bad { BadIsToldFirst }
+    ensures guarded { RescueIsRefused }
 {}

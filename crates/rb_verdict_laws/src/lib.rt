@@ -22,7 +22,7 @@ pub fn answers_are_verdicts()
 {}
 
 /// Where tokens stand one after the other, of a bad token and the first deep one that at the lesser place is refused, and the bad one
-/// where both are at one place.
+/// where both are at one place, unless the deep one is empty.
 pub fn lesser_places_are_refused()
     ensures { LesserPlacesAreRefused }
 {}

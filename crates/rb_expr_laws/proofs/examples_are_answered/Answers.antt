@@ -18,3 +18,6 @@ returns-clause-deep c = refused.1
 
 pub returns-clause-bad : goal.returns-clause-bad
 returns-clause-bad c = refused.2
+
+pub returns-clause-guarded : goal.returns-clause-guarded
+returns-clause-guarded c = refused.3
