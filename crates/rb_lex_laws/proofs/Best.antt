@@ -1,13 +1,13 @@
 -- The one longest spelling at a place.
-use Rattle.std.proofs.Common.{◌≡◌, ℕ, ◌<◌, ◌≤◌, ◌⊎◌, List, [], ◌∷◌, ◌++◌, length, inl, inr, refl, sym, ap, ◌∙◌, arith}
+use Rattle.std.proofs.Common.{◌≡◌, ℕ, ◌<◌, ◌≤◌, ◌⊎◌, List, ◌∷◌, ◌++◌, length, inl, inr, refl, sym, ap, ◌∙◌, arith}
 use Rattle.rb_tree.specs.declared.token.Shape.{Shape}
 use Rattle.rb_lex.specs.Words.{word_of}
 use Rattle.rb_lex.specs.declared.word.Word.TheVariants as word
 use Rattle.rb_rules.specs.Spellings.{Holds, KEYWORDS, FOREIGN_OPERATORS}
 use Rattle.rb_rules.specs.Lexes.{IsWord, Spells, IsLongest}
 use Rattle.rb_lex_laws.proofs.Lists.{rest-same}
-use Rattle.rb_lex_laws.proofs.Rows.{EachRow, at-row}
-use Rattle.rb_lex_laws.proofs.Sorts.{Kind, kind, First, first-of}
+use Rattle.rb_lex_laws.proofs.Rows.{EachRow, at-row, each-by}
+use Rattle.rb_lex_laws.proofs.Sorts.{Kind, kind, First, first-of, is_first, is_name, is_sign, first-is, name-is, sign-is}
 use Rattle.rb_lex_laws.proofs.Words.{keywords-known, foreign-known}
 
 -- another spelling at the place is shorter, or it is the same
@@ -49,7 +49,7 @@ abbrev SignFirst : List ℕ → Type 0
 SignFirst w = First w Kind.Sign
 
 foreign-first : EachRow SignFirst FOREIGN_OPERATORS
-foreign-first = (record { first = 45; others = 62 ∷ []; whole = refl; kind_is = refl }, (record { first = 61; others = 126 ∷ []; whole = refl; kind_is = refl }, (record { first = 33; others = 126 ∷ []; whole = refl; kind_is = refl }, (record { first = 46; others = 46 ∷ []; whole = refl; kind_is = refl }, (record { first = 46; others = 46 ∷ 46 ∷ []; whole = refl; kind_is = refl }, tt)))))
+foreign-first = each-by SignFirst (is_first is_sign) (first-is is_sign Kind.Sign sign-is) FOREIGN_OPERATORS refl
 
 -- no operator outside the profile stands where another kind of character does
 pub no-foreign : {X : Type 0} (v more : List ℕ) (c : ℕ) (u : List ℕ) (k : Kind) → Holds v FOREIGN_OPERATORS → v ++ more ≡ c ∷ u → kind c ≡ k → (Kind.Sign ≡ k → ⊥) → X
@@ -61,7 +61,7 @@ abbrev NameFirst : Shape × List ℕ → Type 0
 NameFirst row = First row.1 Kind.Name
 
 keyword-first : EachRow NameFirst KEYWORDS
-keyword-first = (record { first = 99; others = 108 ∷ 97 ∷ 115 ∷ 115 ∷ []; whole = refl; kind_is = refl }, (record { first = 109; others = 111 ∷ 100 ∷ 117 ∷ 108 ∷ 101 ∷ []; whole = refl; kind_is = refl }, (record { first = 100; others = 101 ∷ 102 ∷ []; whole = refl; kind_is = refl }, (record { first = 101; others = 110 ∷ 100 ∷ []; whole = refl; kind_is = refl }, (record { first = 105; others = 102 ∷ []; whole = refl; kind_is = refl }, (record { first = 101; others = 108 ∷ 115 ∷ 105 ∷ 102 ∷ []; whole = refl; kind_is = refl }, (record { first = 101; others = 108 ∷ 115 ∷ 101 ∷ []; whole = refl; kind_is = refl }, (record { first = 117; others = 110 ∷ 108 ∷ 101 ∷ 115 ∷ 115 ∷ []; whole = refl; kind_is = refl }, (record { first = 119; others = 104 ∷ 105 ∷ 108 ∷ 101 ∷ []; whole = refl; kind_is = refl }, (record { first = 117; others = 110 ∷ 116 ∷ 105 ∷ 108 ∷ []; whole = refl; kind_is = refl }, (record { first = 100; others = 111 ∷ []; whole = refl; kind_is = refl }, (record { first = 99; others = 97 ∷ 115 ∷ 101 ∷ []; whole = refl; kind_is = refl }, (record { first = 119; others = 104 ∷ 101 ∷ 110 ∷ []; whole = refl; kind_is = refl }, (record { first = 116; others = 104 ∷ 101 ∷ 110 ∷ []; whole = refl; kind_is = refl }, (record { first = 114; others = 101 ∷ 116 ∷ 117 ∷ 114 ∷ 110 ∷ []; whole = refl; kind_is = refl }, (record { first = 98; others = 114 ∷ 101 ∷ 97 ∷ 107 ∷ []; whole = refl; kind_is = refl }, (record { first = 110; others = 101 ∷ 120 ∷ 116 ∷ []; whole = refl; kind_is = refl }, (record { first = 115; others = 101 ∷ 108 ∷ 102 ∷ []; whole = refl; kind_is = refl }, (record { first = 110; others = 105 ∷ 108 ∷ []; whole = refl; kind_is = refl }, (record { first = 116; others = 114 ∷ 117 ∷ 101 ∷ []; whole = refl; kind_is = refl }, (record { first = 102; others = 97 ∷ 108 ∷ 115 ∷ 101 ∷ []; whole = refl; kind_is = refl }, (record { first = 121; others = 105 ∷ 101 ∷ 108 ∷ 100 ∷ []; whole = refl; kind_is = refl }, (record { first = 115; others = 117 ∷ 112 ∷ 101 ∷ 114 ∷ []; whole = refl; kind_is = refl }, (record { first = 98; others = 101 ∷ 103 ∷ 105 ∷ 110 ∷ []; whole = refl; kind_is = refl }, (record { first = 114; others = 101 ∷ 115 ∷ 99 ∷ 117 ∷ 101 ∷ []; whole = refl; kind_is = refl }, (record { first = 101; others = 110 ∷ 115 ∷ 117 ∷ 114 ∷ 101 ∷ []; whole = refl; kind_is = refl }, tt))))))))))))))))))))))))))
+keyword-first = each-by NameFirst (λ row. is_first is_name row.1) (λ row. first-is is_name Kind.Name name-is row.1) KEYWORDS refl
 
 pub keyword-begins : (s : Shape) (w : List ℕ) → Holds (s, w) KEYWORDS → First w Kind.Name
 keyword-begins s w h = at-row NameFirst (s, w) KEYWORDS keyword-first h

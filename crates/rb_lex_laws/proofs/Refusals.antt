@@ -1,6 +1,7 @@
 -- Where a rule is broken, the step refuses, and it refuses as the rule says.
 use Rattle.std.proofs.Common.{◌≡◌, ◌≢◌, ℕ, ◌+◌, ◌<◌, ◌≤◌, ◌⊎◌, Bool, true, false, not, nat_le, ◌==◌, ◌&&◌, ◌||◌, if◌then◌else◌, List, [], ◌∷◌, ◌++◌, length, take, drop, inl, inr, refl, sym, ap, subst, ◌∙◌, append_assoc, codes, arith}
 use Rattle.std.specs.Prelude.{slice_index}
+use Rattle.std.specs.List.{list_all}
 use Rattle.std.proofs.lemmas.Grind.{common_steps}
 use Rattle.std.proofs.lemmas.Bool.Decides.{nat_tests}
 use Rattle.rb_tree.specs.Tokens.{same_shape}
@@ -24,14 +25,14 @@ use Rattle.rb_lex.specs.declared.word.Word.TheVariants as word
 use Rattle.rb_rules.specs.Spellings.{Begins, Holds, IsNamed, IsIdentifier, IsConstant, OPERATORS, METHOD_OPERATORS, FOREIGN_WORDS, FOREIGN_OPERATORS}
 use Rattle.rb_rules.specs.Before.{NamesMethod, IsOperandEnd, IsAfterConstant, IsAfterDot}
 use Rattle.rb_rules.specs.Lexes.{Spells, IsLongest, IsSpaced, EndsLine, IsWholeName, IsForeign, IsWrong}
-use Rattle.rb_lex_laws.proofs.Lists.{if-true, if-false, both-and, left-or, right-or, not-of, no-both, eq-is, not-eq, take-front, false-of, begins-is, is-begins, on-begins}
+use Rattle.rb_lex_laws.proofs.Lists.{if-true, if-false, not-true, both-and, left-or, right-or, not-of, no-both, eq-is, not-eq, take-front, false-of, begins-is, is-begins, on-begins}
 use Rattle.rb_lex_laws.proofs.Best.{best-same}
 use Rattle.rb_lex_laws.proofs.Blanks.{blank_here, blank-of, is-line, not-spaced}
 use Rattle.rb_lex_laws.proofs.Longest.{identifiers-longest, constants-longest}
 use Rattle.rb_lex_laws.proofs.Marks.{no-symbol, STRANGE}
 use Rattle.rb_lex_laws.proofs.Past.{before_of, names-asked, ends-asked, constant-asked, dot-asked, held, is-same}
 use Rattle.rb_lex_laws.proofs.Places.{Other, rest_cut, cut-ends, cut-goes, shown-cut}
-use Rattle.rb_lex_laws.proofs.Rows.{EachRow, at-row}
+use Rattle.rb_lex_laws.proofs.Rows.{EachRow, at-row, each-by}
 use Rattle.rb_lex_laws.proofs.Runs.{name-of, labelled-front, run-of, constant-of}
 use Rattle.rb_lex_laws.proofs.Shown.{Shown, Passes, NUMBERS, quiet-good}
 use Rattle.rb_lex_laws.proofs.Signs.{foreign-operator, foreign-name}
@@ -304,14 +305,23 @@ kind-begun c k is other = (not_one 32 refl, (not_one 9 refl, (not_one 13 refl, (
 first-begin : (w : List ℕ) (k : Kind) → (Kind.Sign ≡ k → ⊥) → First w k → Begin w
 first-begin w k other f = (f.first, f.others, f.whole, kind-begun f.first k f.kind_is other)
 
+-- the first character begins none of them
+abbrev is_begun : List ℕ → Bool
+is_begun [] = false
+is_begun (c ∷ w) = list_all (λ k. not (c == k)) BLANKS
+
+begin-of : (w : List ℕ) → is_begun w ≡ true → Begin w
+begin-of [] e = absurd (cc)
+begin-of (c ∷ w) e = (c, w, refl, each-by (λ k. (c == k) ≡ false) (λ k. not (c == k)) (λ k. not-true (c == k)) BLANKS e)
+
 operator-begun : EachRow (λ (row : Shape × List ℕ). Begin row.1) OPERATORS
-operator-begun = ((43, [], refl, (refl, (refl, (refl, (refl, (refl, (refl, (refl, (refl, tt))))))))), ((45, [], refl, (refl, (refl, (refl, (refl, (refl, (refl, (refl, (refl, tt))))))))), ((42, [], refl, (refl, (refl, (refl, (refl, (refl, (refl, (refl, (refl, tt))))))))), ((47, [], refl, (refl, (refl, (refl, (refl, (refl, (refl, (refl, (refl, tt))))))))), ((37, [], refl, (refl, (refl, (refl, (refl, (refl, (refl, (refl, (refl, tt))))))))), ((42, 42 ∷ [], refl, (refl, (refl, (refl, (refl, (refl, (refl, (refl, (refl, tt))))))))), ((61, 61 ∷ [], refl, (refl, (refl, (refl, (refl, (refl, (refl, (refl, (refl, tt))))))))), ((33, 61 ∷ [], refl, (refl, (refl, (refl, (refl, (refl, (refl, (refl, (refl, tt))))))))), ((61, 61 ∷ 61 ∷ [], refl, (refl, (refl, (refl, (refl, (refl, (refl, (refl, (refl, tt))))))))), ((60, 61 ∷ 62 ∷ [], refl, (refl, (refl, (refl, (refl, (refl, (refl, (refl, (refl, tt))))))))), ((60, [], refl, (refl, (refl, (refl, (refl, (refl, (refl, (refl, (refl, tt))))))))), ((62, [], refl, (refl, (refl, (refl, (refl, (refl, (refl, (refl, (refl, tt))))))))), ((60, 61 ∷ [], refl, (refl, (refl, (refl, (refl, (refl, (refl, (refl, (refl, tt))))))))), ((62, 61 ∷ [], refl, (refl, (refl, (refl, (refl, (refl, (refl, (refl, (refl, tt))))))))), ((38, 38 ∷ [], refl, (refl, (refl, (refl, (refl, (refl, (refl, (refl, (refl, tt))))))))), ((124, 124 ∷ [], refl, (refl, (refl, (refl, (refl, (refl, (refl, (refl, (refl, tt))))))))), ((33, [], refl, (refl, (refl, (refl, (refl, (refl, (refl, (refl, (refl, tt))))))))), ((126, [], refl, (refl, (refl, (refl, (refl, (refl, (refl, (refl, (refl, tt))))))))), ((38, [], refl, (refl, (refl, (refl, (refl, (refl, (refl, (refl, (refl, tt))))))))), ((124, [], refl, (refl, (refl, (refl, (refl, (refl, (refl, (refl, (refl, tt))))))))), ((94, [], refl, (refl, (refl, (refl, (refl, (refl, (refl, (refl, (refl, tt))))))))), ((60, 60 ∷ [], refl, (refl, (refl, (refl, (refl, (refl, (refl, (refl, (refl, tt))))))))), ((62, 62 ∷ [], refl, (refl, (refl, (refl, (refl, (refl, (refl, (refl, (refl, tt))))))))), ((61, [], refl, (refl, (refl, (refl, (refl, (refl, (refl, (refl, (refl, tt))))))))), ((61, 62 ∷ [], refl, (refl, (refl, (refl, (refl, (refl, (refl, (refl, (refl, tt))))))))), ((63, [], refl, (refl, (refl, (refl, (refl, (refl, (refl, (refl, (refl, tt))))))))), ((58, [], refl, (refl, (refl, (refl, (refl, (refl, (refl, (refl, (refl, tt))))))))), ((58, 58 ∷ [], refl, (refl, (refl, (refl, (refl, (refl, (refl, (refl, (refl, tt))))))))), ((46, [], refl, (refl, (refl, (refl, (refl, (refl, (refl, (refl, (refl, tt))))))))), ((38, 46 ∷ [], refl, (refl, (refl, (refl, (refl, (refl, (refl, (refl, (refl, tt))))))))), ((44, [], refl, (refl, (refl, (refl, (refl, (refl, (refl, (refl, (refl, tt))))))))), ((40, [], refl, (refl, (refl, (refl, (refl, (refl, (refl, (refl, (refl, tt))))))))), ((41, [], refl, (refl, (refl, (refl, (refl, (refl, (refl, (refl, (refl, tt))))))))), ((91, [], refl, (refl, (refl, (refl, (refl, (refl, (refl, (refl, (refl, tt))))))))), ((93, [], refl, (refl, (refl, (refl, (refl, (refl, (refl, (refl, (refl, tt))))))))), ((123, [], refl, (refl, (refl, (refl, (refl, (refl, (refl, (refl, (refl, tt))))))))), ((125, [], refl, (refl, (refl, (refl, (refl, (refl, (refl, (refl, (refl, tt))))))))), ((43, 61 ∷ [], refl, (refl, (refl, (refl, (refl, (refl, (refl, (refl, (refl, tt))))))))), ((45, 61 ∷ [], refl, (refl, (refl, (refl, (refl, (refl, (refl, (refl, (refl, tt))))))))), ((42, 61 ∷ [], refl, (refl, (refl, (refl, (refl, (refl, (refl, (refl, (refl, tt))))))))), ((47, 61 ∷ [], refl, (refl, (refl, (refl, (refl, (refl, (refl, (refl, (refl, tt))))))))), ((37, 61 ∷ [], refl, (refl, (refl, (refl, (refl, (refl, (refl, (refl, (refl, tt))))))))), ((42, 42 ∷ 61 ∷ [], refl, (refl, (refl, (refl, (refl, (refl, (refl, (refl, (refl, tt))))))))), ((124, 124 ∷ 61 ∷ [], refl, (refl, (refl, (refl, (refl, (refl, (refl, (refl, (refl, tt))))))))), ((38, 38 ∷ 61 ∷ [], refl, (refl, (refl, (refl, (refl, (refl, (refl, (refl, (refl, tt))))))))), ((124, 61 ∷ [], refl, (refl, (refl, (refl, (refl, (refl, (refl, (refl, (refl, tt))))))))), ((38, 61 ∷ [], refl, (refl, (refl, (refl, (refl, (refl, (refl, (refl, (refl, tt))))))))), ((94, 61 ∷ [], refl, (refl, (refl, (refl, (refl, (refl, (refl, (refl, (refl, tt))))))))), ((60, 60 ∷ 61 ∷ [], refl, (refl, (refl, (refl, (refl, (refl, (refl, (refl, (refl, tt))))))))), ((62, 62 ∷ 61 ∷ [], refl, (refl, (refl, (refl, (refl, (refl, (refl, (refl, (refl, tt))))))))), tt))))))))))))))))))))))))))))))))))))))))))))))))))
+operator-begun = each-by (λ (row : Shape × List ℕ). Begin row.1) (λ row. is_begun row.1) (λ row. begin-of row.1) OPERATORS refl
 
 method-begun : EachRow (λ (row : Shape × List ℕ). Begin row.1) METHOD_OPERATORS
-method-begun = ((45, 64 ∷ [], refl, (refl, (refl, (refl, (refl, (refl, (refl, (refl, (refl, tt))))))))), ((43, 64 ∷ [], refl, (refl, (refl, (refl, (refl, (refl, (refl, (refl, (refl, tt))))))))), ((91, 93 ∷ [], refl, (refl, (refl, (refl, (refl, (refl, (refl, (refl, (refl, tt))))))))), ((91, 93 ∷ 61 ∷ [], refl, (refl, (refl, (refl, (refl, (refl, (refl, (refl, (refl, tt))))))))), tt))))
+method-begun = each-by (λ (row : Shape × List ℕ). Begin row.1) (λ row. is_begun row.1) (λ row. begin-of row.1) METHOD_OPERATORS refl
 
 foreign-begun : EachRow Begin FOREIGN_OPERATORS
-foreign-begun = ((45, 62 ∷ [], refl, (refl, (refl, (refl, (refl, (refl, (refl, (refl, (refl, tt))))))))), ((61, 126 ∷ [], refl, (refl, (refl, (refl, (refl, (refl, (refl, (refl, (refl, tt))))))))), ((33, 126 ∷ [], refl, (refl, (refl, (refl, (refl, (refl, (refl, (refl, (refl, tt))))))))), ((46, 46 ∷ [], refl, (refl, (refl, (refl, (refl, (refl, (refl, (refl, (refl, tt))))))))), ((46, 46 ∷ 46 ∷ [], refl, (refl, (refl, (refl, (refl, (refl, (refl, (refl, (refl, tt))))))))), tt)))))
+foreign-begun = each-by Begin is_begun begin-of FOREIGN_OPERATORS refl
 
 named-begin : (w rest : List ℕ) → IsIdentifier w rest → Begin w
 named-begin w rest h = first-begin w Kind.Name (λ e. absurd (cc)) (identifier-first w rest h)

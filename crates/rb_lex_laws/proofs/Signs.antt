@@ -129,15 +129,41 @@ colon-row next last = node 58 next (λ n g. IsRow 58 n last g) (found shape.Scop
 
 single-row : (b next last : ℕ) → IsRow b next last (single b)
 unfolding same_shape
-single-row b next last = node 126 b (λ n g. IsRow n next last g) (found shape.Tilde 1) (if b == 63 then found shape.Question 1 else (if b == 44 then found shape.Comma 1 else (if b == 40 then found shape.OpenParen 1 else (if b == 41 then found shape.CloseParen 1 else (if b == 91 then found shape.OpenBracket 1 else (if b == 93 then found shape.CloseBracket 1 else (if b == 123 then found shape.OpenBrace 1 else (if b == 125 then found shape.CloseBrace 1 else (Nothing))))))))) ((listed-holds shape.Tilde (126 ∷ []) OPERATORS refl, inl refl)) (node 63 b (λ n g. IsRow n next last g) (found shape.Question 1) (if b == 44 then found shape.Comma 1 else (if b == 40 then found shape.OpenParen 1 else (if b == 41 then found shape.CloseParen 1 else (if b == 91 then found shape.OpenBracket 1 else (if b == 93 then found shape.CloseBracket 1 else (if b == 123 then found shape.OpenBrace 1 else (if b == 125 then found shape.CloseBrace 1 else (Nothing)))))))) ((listed-holds shape.Question (63 ∷ []) OPERATORS refl, inl refl)) (node 44 b (λ n g. IsRow n next last g) (found shape.Comma 1) (if b == 40 then found shape.OpenParen 1 else (if b == 41 then found shape.CloseParen 1 else (if b == 91 then found shape.OpenBracket 1 else (if b == 93 then found shape.CloseBracket 1 else (if b == 123 then found shape.OpenBrace 1 else (if b == 125 then found shape.CloseBrace 1 else (Nothing))))))) ((listed-holds shape.Comma (44 ∷ []) OPERATORS refl, inl refl)) (node 40 b (λ n g. IsRow n next last g) (found shape.OpenParen 1) (if b == 41 then found shape.CloseParen 1 else (if b == 91 then found shape.OpenBracket 1 else (if b == 93 then found shape.CloseBracket 1 else (if b == 123 then found shape.OpenBrace 1 else (if b == 125 then found shape.CloseBrace 1 else (Nothing)))))) ((listed-holds shape.OpenParen (40 ∷ []) OPERATORS refl, inl refl)) (node 41 b (λ n g. IsRow n next last g) (found shape.CloseParen 1) (if b == 91 then found shape.OpenBracket 1 else (if b == 93 then found shape.CloseBracket 1 else (if b == 123 then found shape.OpenBrace 1 else (if b == 125 then found shape.CloseBrace 1 else (Nothing))))) ((listed-holds shape.CloseParen (41 ∷ []) OPERATORS refl, inl refl)) (node 91 b (λ n g. IsRow n next last g) (found shape.OpenBracket 1) (if b == 93 then found shape.CloseBracket 1 else (if b == 123 then found shape.OpenBrace 1 else (if b == 125 then found shape.CloseBrace 1 else (Nothing)))) ((listed-holds shape.OpenBracket (91 ∷ []) OPERATORS refl, inl refl)) (node 93 b (λ n g. IsRow n next last g) (found shape.CloseBracket 1) (if b == 123 then found shape.OpenBrace 1 else (if b == 125 then found shape.CloseBrace 1 else (Nothing))) ((listed-holds shape.CloseBracket (93 ∷ []) OPERATORS refl, inl refl)) (node 123 b (λ n g. IsRow n next last g) (found shape.OpenBrace 1) (if b == 125 then found shape.CloseBrace 1 else (Nothing)) ((listed-holds shape.OpenBrace (123 ∷ []) OPERATORS refl, inl refl)) (node 125 b (λ n g. IsRow n next last g) (found shape.CloseBrace 1) (Nothing) ((listed-holds shape.CloseBrace (125 ∷ []) OPERATORS refl, inl refl)) (tt)))))))))
+single-row b next last =
+    (node 126 b (λ n g. IsRow n next last g) _ _ (listed-holds shape.Tilde (126 ∷ []) OPERATORS refl, inl refl)
+    (node 63 b (λ n g. IsRow n next last g) _ _ (listed-holds shape.Question (63 ∷ []) OPERATORS refl, inl refl)
+    (node 44 b (λ n g. IsRow n next last g) _ _ (listed-holds shape.Comma (44 ∷ []) OPERATORS refl, inl refl)
+    (node 40 b (λ n g. IsRow n next last g) _ _ (listed-holds shape.OpenParen (40 ∷ []) OPERATORS refl, inl refl)
+    (node 41 b (λ n g. IsRow n next last g) _ _ (listed-holds shape.CloseParen (41 ∷ []) OPERATORS refl, inl refl)
+    (node 91 b (λ n g. IsRow n next last g) _ _ (listed-holds shape.OpenBracket (91 ∷ []) OPERATORS refl, inl refl)
+    (node 93 b (λ n g. IsRow n next last g) _ _ (listed-holds shape.CloseBracket (93 ∷ []) OPERATORS refl, inl refl)
+    (node 123 b (λ n g. IsRow n next last g) _ _ (listed-holds shape.OpenBrace (123 ∷ []) OPERATORS refl, inl refl)
+    (node 125 b (λ n g. IsRow n next last g) _ _ (listed-holds shape.CloseBrace (125 ∷ []) OPERATORS refl, inl refl)
+    tt)))))))))
 
 compound-row : (b next last : ℕ) → IsRow b next last (compound b next last)
 unfolding same_shape
-compound-row b next last = node 61 b (λ n g. IsRow n next last g) (equals next last) (if b == 33 then not_sign next else (if b == 60 then less next last else (if b == 62 then greater next last else (if b == 38 then ampersand next last else (if b == 124 then pipe next last else (single b)))))) (equals-row next last) (node 33 b (λ n g. IsRow n next last g) (not_sign next) (if b == 60 then less next last else (if b == 62 then greater next last else (if b == 38 then ampersand next last else (if b == 124 then pipe next last else (single b))))) (not-row next last) (node 60 b (λ n g. IsRow n next last g) (less next last) (if b == 62 then greater next last else (if b == 38 then ampersand next last else (if b == 124 then pipe next last else (single b)))) (less-row next last) (node 62 b (λ n g. IsRow n next last g) (greater next last) (if b == 38 then ampersand next last else (if b == 124 then pipe next last else (single b))) (greater-row next last) (node 38 b (λ n g. IsRow n next last g) (ampersand next last) (if b == 124 then pipe next last else (single b)) (ampersand-row next last) (node 124 b (λ n g. IsRow n next last g) (pipe next last) (single b) (pipe-row next last) (single-row b next last))))))
+compound-row b next last =
+    (node 61 b (λ n g. IsRow n next last g) _ _ (equals-row next last)
+    (node 33 b (λ n g. IsRow n next last g) _ _ (not-row next last)
+    (node 60 b (λ n g. IsRow n next last g) _ _ (less-row next last)
+    (node 62 b (λ n g. IsRow n next last g) _ _ (greater-row next last)
+    (node 38 b (λ n g. IsRow n next last g) _ _ (ampersand-row next last)
+    (node 124 b (λ n g. IsRow n next last g) _ _ (pipe-row next last)
+    (single-row b next last)))))))
 
 pub operator-row : (b next last : ℕ) → IsRow b next last (operator b next last)
 unfolding operator
-operator-row b next last = node 46 b (λ n g. IsRow n next last g) (dot next) (if b == 58 then colon next else (if b == 43 then or_assign next shape.Plus shape.PlusAssign else (if b == 45 then minus next else (if b == 42 then star next last else (if b == 47 then or_assign next shape.Slash shape.SlashAssign else (if b == 37 then or_assign next shape.Percent shape.PercentAssign else (if b == 94 then or_assign next shape.Caret shape.CaretAssign else (compound b next last)))))))) (dot-row next last) (node 58 b (λ n g. IsRow n next last g) (colon next) (if b == 43 then or_assign next shape.Plus shape.PlusAssign else (if b == 45 then minus next else (if b == 42 then star next last else (if b == 47 then or_assign next shape.Slash shape.SlashAssign else (if b == 37 then or_assign next shape.Percent shape.PercentAssign else (if b == 94 then or_assign next shape.Caret shape.CaretAssign else (compound b next last))))))) (colon-row next last) (node 43 b (λ n g. IsRow n next last g) (or_assign next shape.Plus shape.PlusAssign) (if b == 45 then minus next else (if b == 42 then star next last else (if b == 47 then or_assign next shape.Slash shape.SlashAssign else (if b == 37 then or_assign next shape.Percent shape.PercentAssign else (if b == 94 then or_assign next shape.Caret shape.CaretAssign else (compound b next last)))))) (plus-row next last) (node 45 b (λ n g. IsRow n next last g) (minus next) (if b == 42 then star next last else (if b == 47 then or_assign next shape.Slash shape.SlashAssign else (if b == 37 then or_assign next shape.Percent shape.PercentAssign else (if b == 94 then or_assign next shape.Caret shape.CaretAssign else (compound b next last))))) (minus-row next last) (node 42 b (λ n g. IsRow n next last g) (star next last) (if b == 47 then or_assign next shape.Slash shape.SlashAssign else (if b == 37 then or_assign next shape.Percent shape.PercentAssign else (if b == 94 then or_assign next shape.Caret shape.CaretAssign else (compound b next last)))) (star-row next last) (node 47 b (λ n g. IsRow n next last g) (or_assign next shape.Slash shape.SlashAssign) (if b == 37 then or_assign next shape.Percent shape.PercentAssign else (if b == 94 then or_assign next shape.Caret shape.CaretAssign else (compound b next last))) (slash-row next last) (node 37 b (λ n g. IsRow n next last g) (or_assign next shape.Percent shape.PercentAssign) (if b == 94 then or_assign next shape.Caret shape.CaretAssign else (compound b next last)) (percent-row next last) (node 94 b (λ n g. IsRow n next last g) (or_assign next shape.Caret shape.CaretAssign) (compound b next last) (caret-row next last) (compound-row b next last))))))))
+operator-row b next last =
+    (node 46 b (λ n g. IsRow n next last g) _ _ (dot-row next last)
+    (node 58 b (λ n g. IsRow n next last g) _ _ (colon-row next last)
+    (node 43 b (λ n g. IsRow n next last g) _ _ (plus-row next last)
+    (node 45 b (λ n g. IsRow n next last g) _ _ (minus-row next last)
+    (node 42 b (λ n g. IsRow n next last g) _ _ (star-row next last)
+    (node 47 b (λ n g. IsRow n next last g) _ _ (slash-row next last)
+    (node 37 b (λ n g. IsRow n next last g) _ _ (percent-row next last)
+    (node 94 b (λ n g. IsRow n next last g) _ _ (caret-row next last)
+    (compound-row b next last)))))))))
 
 -- ---- the longest
 
@@ -154,6 +180,47 @@ either k false x y px py = py
 or_assign-some : (next : ℕ) (s t : Shape) → AtLeast 1 (or_assign next s t)
 or_assign-some next s t = either 1 (next == 61) (found t 2) (found s 1) (omega arith) (omega arith)
 
+-- an operator of one character, or one of two that begins with it
+minus-some : (m : ℕ) → AtLeast 1 (minus m)
+minus-some m = either 1 (m == 62) Foreign (or_assign m shape.Minus shape.MinusAssign) tt (or_assign-some m shape.Minus shape.MinusAssign)
+
+-- three characters where this one comes, else two
+three-or-two : (k l c : ℕ) (s t : Shape) → k ≤ 2 → AtLeast k (if l == c then found s 3 else found t 2)
+three-or-two k l c s t h = either k (l == c) (found s 3) (found t 2) (omega arith) (omega arith)
+
+star-some : (m l : ℕ) → AtLeast 1 (star m l)
+star-some m l = either 1 (m == 42) _ _ (three-or-two 1 l 61 shape.PowerAssign shape.Power (omega arith)) (or_assign-some m shape.Star shape.StarAssign)
+
+less-some : (m l : ℕ) → AtLeast 1 (less m l)
+less-some m l =
+    either 1 (m == 61) _ _ (three-or-two 1 l 62 shape.Compare shape.LessEqual (omega arith))
+    (either 1 (m == 60) _ _ (three-or-two 1 l 61 shape.ShiftLeftAssign shape.ShiftLeft (omega arith)) (omega arith))
+
+greater-some : (m l : ℕ) → AtLeast 1 (greater m l)
+greater-some m l = either 1 (m == 62) _ _ (three-or-two 1 l 61 shape.ShiftRightAssign shape.ShiftRight (omega arith)) (or_assign-some m shape.Greater shape.GreaterEqual)
+
+not-some : (m : ℕ) → AtLeast 1 (not_sign m)
+not-some m = either 1 (m == 126) Foreign _ tt (or_assign-some m shape.Not shape.NotEqual)
+
+ampersand-some : (m l : ℕ) → AtLeast 1 (ampersand m l)
+ampersand-some m l =
+    either 1 (m == 38) _ _ (three-or-two 1 l 61 shape.AndAssign shape.AndAnd (omega arith))
+    (either 1 (m == 46) _ _ (omega arith) (or_assign-some m shape.Ampersand shape.AmpersandAssign))
+
+pipe-some : (m l : ℕ) → AtLeast 1 (pipe m l)
+pipe-some m l = either 1 (m == 124) _ _ (three-or-two 1 l 61 shape.OrAssign shape.OrOr (omega arith)) (or_assign-some m shape.Pipe shape.PipeAssign)
+
+equals-some : (m l : ℕ) → AtLeast 1 (equals m l)
+equals-some m l =
+    either 1 (m == 61) _ _ (three-or-two 1 l 61 shape.CaseEqual shape.Equal (omega arith))
+    (either 1 (m == 62) _ _ (omega arith) (either 1 (m == 126) Foreign (found shape.Assign 1) tt (omega arith)))
+
+colon-some : (m : ℕ) → AtLeast 1 (colon m)
+colon-some m = either 1 (m == 58) (found shape.Scope 2) (found shape.Colon 1) (omega arith) (omega arith)
+
+dot-some : (m : ℕ) → AtLeast 1 (dot m)
+dot-some m = either 1 (m == 46) Foreign (found shape.Dot 1) tt (omega arith)
+
 abbrev AtFront : (ℕ → ℕ → ℕ → Sign) → List ℕ → Type 0
 AtFront f [] = ⊥
 AtFront f (b ∷ []) = (m l : ℕ) → AtLeast 1 (f b m l)
@@ -163,11 +230,299 @@ AtFront f (b ∷ c ∷ d ∷ e ∷ w) = ⊥
 
 operator-rows : EachRow (λ (row : Shape × List ℕ). AtFront operator row.1) OPERATORS
 unfolding operator
-operator-rows = ((λ m l. or_assign-some m shape.Plus shape.PlusAssign), ((λ m l. either 1 (m == 62) Foreign (or_assign m shape.Minus shape.MinusAssign) tt (or_assign-some m shape.Minus shape.MinusAssign)), ((λ m l. either 1 (m == 42) (if l == 61 then found shape.PowerAssign 3 else found shape.Power 2) (or_assign m shape.Star shape.StarAssign) (either 1 (l == 61) (found shape.PowerAssign 3) (found shape.Power 2) (omega arith) (omega arith)) (or_assign-some m shape.Star shape.StarAssign)), ((λ m l. or_assign-some m shape.Slash shape.SlashAssign), ((λ m l. or_assign-some m shape.Percent shape.PercentAssign), ((λ m l. either 2 (m == 61) (found shape.PowerAssign 3) (found shape.Power 2) (omega arith) (omega arith)), ((λ m l. either 2 (m == 61) (found shape.CaseEqual 3) (found shape.Equal 2) (omega arith) (omega arith)), ((λ m l. omega arith), ((λ m l. omega arith), ((λ m l. omega arith), ((λ m l. either 1 (m == 61) (if l == 62 then found shape.Compare 3 else found shape.LessEqual 2) (if m == 60 then (if l == 61 then found shape.ShiftLeftAssign 3 else found shape.ShiftLeft 2) else found shape.Less 1) (either 1 (l == 62) (found shape.Compare 3) (found shape.LessEqual 2) (omega arith) (omega arith)) (either 1 (m == 60) (if l == 61 then found shape.ShiftLeftAssign 3 else found shape.ShiftLeft 2) (found shape.Less 1) (either 1 (l == 61) (found shape.ShiftLeftAssign 3) (found shape.ShiftLeft 2) (omega arith) (omega arith)) (omega arith))), ((λ m l. either 1 (m == 62) (if l == 61 then found shape.ShiftRightAssign 3 else found shape.ShiftRight 2) (or_assign m shape.Greater shape.GreaterEqual) (either 1 (l == 61) (found shape.ShiftRightAssign 3) (found shape.ShiftRight 2) (omega arith) (omega arith)) (or_assign-some m shape.Greater shape.GreaterEqual)), ((λ m l. either 2 (m == 62) (found shape.Compare 3) (found shape.LessEqual 2) (omega arith) (omega arith)), ((λ m l. omega arith), ((λ m l. either 2 (m == 61) (found shape.AndAssign 3) (found shape.AndAnd 2) (omega arith) (omega arith)), ((λ m l. either 2 (m == 61) (found shape.OrAssign 3) (found shape.OrOr 2) (omega arith) (omega arith)), ((λ m l. either 1 (m == 126) Foreign (or_assign m shape.Not shape.NotEqual) tt (or_assign-some m shape.Not shape.NotEqual)), ((λ m l. omega arith), ((λ m l. either 1 (m == 38) (if l == 61 then found shape.AndAssign 3 else found shape.AndAnd 2) (if m == 46 then found shape.SafeDot 2 else or_assign m shape.Ampersand shape.AmpersandAssign) (either 1 (l == 61) (found shape.AndAssign 3) (found shape.AndAnd 2) (omega arith) (omega arith)) (either 1 (m == 46) (found shape.SafeDot 2) (or_assign m shape.Ampersand shape.AmpersandAssign) (omega arith) (or_assign-some m shape.Ampersand shape.AmpersandAssign))), ((λ m l. either 1 (m == 124) (if l == 61 then found shape.OrAssign 3 else found shape.OrOr 2) (or_assign m shape.Pipe shape.PipeAssign) (either 1 (l == 61) (found shape.OrAssign 3) (found shape.OrOr 2) (omega arith) (omega arith)) (or_assign-some m shape.Pipe shape.PipeAssign)), ((λ m l. or_assign-some m shape.Caret shape.CaretAssign), ((λ m l. either 2 (m == 61) (found shape.ShiftLeftAssign 3) (found shape.ShiftLeft 2) (omega arith) (omega arith)), ((λ m l. either 2 (m == 61) (found shape.ShiftRightAssign 3) (found shape.ShiftRight 2) (omega arith) (omega arith)), ((λ m l. either 1 (m == 61) (if l == 61 then found shape.CaseEqual 3 else found shape.Equal 2) (if m == 62 then found shape.Arrow 2 else (if m == 126 then Foreign else found shape.Assign 1)) (either 1 (l == 61) (found shape.CaseEqual 3) (found shape.Equal 2) (omega arith) (omega arith)) (either 1 (m == 62) (found shape.Arrow 2) (if m == 126 then Foreign else found shape.Assign 1) (omega arith) (either 1 (m == 126) Foreign (found shape.Assign 1) tt (omega arith)))), ((λ m l. omega arith), ((λ m l. omega arith), ((λ m l. either 1 (m == 58) (found shape.Scope 2) (found shape.Colon 1) (omega arith) (omega arith)), ((λ m l. omega arith), ((λ m l. either 1 (m == 46) Foreign (found shape.Dot 1) tt (omega arith)), ((λ m l. omega arith), ((λ m l. omega arith), ((λ m l. omega arith), ((λ m l. omega arith), ((λ m l. omega arith), ((λ m l. omega arith), ((λ m l. omega arith), ((λ m l. omega arith), ((λ m l. omega arith), ((λ m l. omega arith), ((λ m l. omega arith), ((λ m l. omega arith), ((λ m l. omega arith), ((λ m l. omega arith), ((λ m l. omega arith), ((λ m l. omega arith), ((λ m l. omega arith), ((λ m l. omega arith), ((λ m l. omega arith), ((λ m l. omega arith), ((λ m l. omega arith), tt))))))))))))))))))))))))))))))))))))))))))))))))))
+operator-rows = (
+  (λ m l. or_assign-some m shape.Plus shape.PlusAssign),
+  (
+    (λ m l. minus-some m),
+    (
+      (λ m l. star-some m l),
+      (
+        (λ m l. or_assign-some m shape.Slash shape.SlashAssign),
+        (
+          (λ m l. or_assign-some m shape.Percent shape.PercentAssign),
+          (
+            (λ m l. three-or-two 2 m 61 shape.PowerAssign shape.Power (omega arith)),
+            (
+              (λ m l. three-or-two 2 m 61 shape.CaseEqual shape.Equal (omega arith)),
+              (
+                (λ m l. omega arith),
+                (
+                  (λ m l. omega arith),
+                  (
+                    (λ m l. omega arith),
+                    (
+                      (λ m l. less-some m l),
+                      (
+                        (λ m l. greater-some m l),
+                        (
+                          (λ m l. three-or-two 2 m 62 shape.Compare shape.LessEqual (omega arith)),
+                          (
+                            (λ m l. omega arith),
+                            (
+                              (λ m l. three-or-two 2 m 61 shape.AndAssign shape.AndAnd (omega arith)),
+                              (
+                                (λ m l. three-or-two 2 m 61 shape.OrAssign shape.OrOr (omega arith)),
+                                (
+                                  (λ m l. not-some m),
+                                  (
+                                    (λ m l. omega arith),
+                                    (
+                                      (λ m l. ampersand-some m l),
+                                      (
+                                        (λ m l. pipe-some m l),
+                                        (
+                                          (λ m l. or_assign-some m shape.Caret shape.CaretAssign),
+                                          (
+                                            (λ m l. three-or-two 2 m 61 shape.ShiftLeftAssign shape.ShiftLeft (omega arith)),
+                                            (
+                                              (λ m l. three-or-two 2 m 61 shape.ShiftRightAssign shape.ShiftRight (omega arith)),
+                                              (
+                                                (λ m l. equals-some m l),
+                                                (
+                                                  (λ m l. omega arith),
+                                                  (
+                                                    (λ m l. omega arith),
+                                                    (
+                                                      (λ m l. colon-some m),
+                                                      (
+                                                        (λ m l. omega arith),
+                                                        (
+                                                          (λ m l. dot-some m),
+                                                          (
+                                                            (λ m l. omega arith),
+                                                            (
+                                                              (λ m l. omega arith),
+                                                              (
+                                                                (λ m l. omega arith),
+                                                                (
+                                                                  (λ m l. omega arith),
+                                                                  (
+                                                                    (λ m l. omega arith),
+                                                                    (
+                                                                      (λ m l. omega arith),
+                                                                      (
+                                                                        (λ m l. omega arith),
+                                                                        (
+                                                                          (λ m l. omega arith),
+                                                                          (
+                                                                            (λ m l. omega arith),
+                                                                            (
+                                                                              (λ m l. omega arith),
+                                                                              (
+                                                                                (λ m l. omega arith),
+                                                                                (
+                                                                                  (λ m l. omega arith),
+                                                                                  (
+                                                                                    (λ m l. omega arith),
+                                                                                    (
+                                                                                      (λ m l. omega arith),
+                                                                                      (
+                                                                                        (λ m l. omega arith),
+                                                                                        (
+                                                                                          (λ m l. omega arith),
+                                                                                          (
+                                                                                            (λ m l. omega arith),
+                                                                                            (
+                                                                                              (λ m l. omega arith),
+                                                                                              (
+                                                                                                (λ m l. omega arith),
+                                                                                                (
+                                                                                                  (λ m l. omega arith),
+                                                                                                  ((λ m l. omega arith), tt),
+                                                                                                ),
+                                                                                              ),
+                                                                                            ),
+                                                                                          ),
+                                                                                        ),
+                                                                                      ),
+                                                                                    ),
+                                                                                  ),
+                                                                                ),
+                                                                              ),
+                                                                            ),
+                                                                          ),
+                                                                        ),
+                                                                      ),
+                                                                    ),
+                                                                  ),
+                                                                ),
+                                                              ),
+                                                            ),
+                                                          ),
+                                                        ),
+                                                      ),
+                                                    ),
+                                                  ),
+                                                ),
+                                              ),
+                                            ),
+                                          ),
+                                        ),
+                                      ),
+                                    ),
+                                  ),
+                                ),
+                              ),
+                            ),
+                          ),
+                        ),
+                      ),
+                    ),
+                  ),
+                ),
+              ),
+            ),
+          ),
+        ),
+      ),
+    ),
+  ),
+)
 
 name-rows : EachRow (λ (row : Shape × List ℕ). AtFront method_name row.1) OPERATORS
 unfolding operator method_name
-name-rows = ((λ m l. either 1 (m == 64) (found shape.UnaryPlus 2) (or_assign m shape.Plus shape.PlusAssign) (omega arith) (or_assign-some m shape.Plus shape.PlusAssign)), ((λ m l. either 1 (m == 64) (found shape.UnaryMinus 2) (minus m) (omega arith) (either 1 (m == 62) Foreign (or_assign m shape.Minus shape.MinusAssign) tt (or_assign-some m shape.Minus shape.MinusAssign))), ((λ m l. either 1 (m == 42) (if l == 61 then found shape.PowerAssign 3 else found shape.Power 2) (or_assign m shape.Star shape.StarAssign) (either 1 (l == 61) (found shape.PowerAssign 3) (found shape.Power 2) (omega arith) (omega arith)) (or_assign-some m shape.Star shape.StarAssign)), ((λ m l. or_assign-some m shape.Slash shape.SlashAssign), ((λ m l. or_assign-some m shape.Percent shape.PercentAssign), ((λ m l. either 2 (m == 61) (found shape.PowerAssign 3) (found shape.Power 2) (omega arith) (omega arith)), ((λ m l. either 2 (m == 61) (found shape.CaseEqual 3) (found shape.Equal 2) (omega arith) (omega arith)), ((λ m l. omega arith), ((λ m l. omega arith), ((λ m l. omega arith), ((λ m l. either 1 (m == 61) (if l == 62 then found shape.Compare 3 else found shape.LessEqual 2) (if m == 60 then (if l == 61 then found shape.ShiftLeftAssign 3 else found shape.ShiftLeft 2) else found shape.Less 1) (either 1 (l == 62) (found shape.Compare 3) (found shape.LessEqual 2) (omega arith) (omega arith)) (either 1 (m == 60) (if l == 61 then found shape.ShiftLeftAssign 3 else found shape.ShiftLeft 2) (found shape.Less 1) (either 1 (l == 61) (found shape.ShiftLeftAssign 3) (found shape.ShiftLeft 2) (omega arith) (omega arith)) (omega arith))), ((λ m l. either 1 (m == 62) (if l == 61 then found shape.ShiftRightAssign 3 else found shape.ShiftRight 2) (or_assign m shape.Greater shape.GreaterEqual) (either 1 (l == 61) (found shape.ShiftRightAssign 3) (found shape.ShiftRight 2) (omega arith) (omega arith)) (or_assign-some m shape.Greater shape.GreaterEqual)), ((λ m l. either 2 (m == 62) (found shape.Compare 3) (found shape.LessEqual 2) (omega arith) (omega arith)), ((λ m l. omega arith), ((λ m l. either 2 (m == 61) (found shape.AndAssign 3) (found shape.AndAnd 2) (omega arith) (omega arith)), ((λ m l. either 2 (m == 61) (found shape.OrAssign 3) (found shape.OrOr 2) (omega arith) (omega arith)), ((λ m l. either 1 (m == 126) Foreign (or_assign m shape.Not shape.NotEqual) tt (or_assign-some m shape.Not shape.NotEqual)), ((λ m l. omega arith), ((λ m l. either 1 (m == 38) (if l == 61 then found shape.AndAssign 3 else found shape.AndAnd 2) (if m == 46 then found shape.SafeDot 2 else or_assign m shape.Ampersand shape.AmpersandAssign) (either 1 (l == 61) (found shape.AndAssign 3) (found shape.AndAnd 2) (omega arith) (omega arith)) (either 1 (m == 46) (found shape.SafeDot 2) (or_assign m shape.Ampersand shape.AmpersandAssign) (omega arith) (or_assign-some m shape.Ampersand shape.AmpersandAssign))), ((λ m l. either 1 (m == 124) (if l == 61 then found shape.OrAssign 3 else found shape.OrOr 2) (or_assign m shape.Pipe shape.PipeAssign) (either 1 (l == 61) (found shape.OrAssign 3) (found shape.OrOr 2) (omega arith) (omega arith)) (or_assign-some m shape.Pipe shape.PipeAssign)), ((λ m l. or_assign-some m shape.Caret shape.CaretAssign), ((λ m l. either 2 (m == 61) (found shape.ShiftLeftAssign 3) (found shape.ShiftLeft 2) (omega arith) (omega arith)), ((λ m l. either 2 (m == 61) (found shape.ShiftRightAssign 3) (found shape.ShiftRight 2) (omega arith) (omega arith)), ((λ m l. either 1 (m == 61) (if l == 61 then found shape.CaseEqual 3 else found shape.Equal 2) (if m == 62 then found shape.Arrow 2 else (if m == 126 then Foreign else found shape.Assign 1)) (either 1 (l == 61) (found shape.CaseEqual 3) (found shape.Equal 2) (omega arith) (omega arith)) (either 1 (m == 62) (found shape.Arrow 2) (if m == 126 then Foreign else found shape.Assign 1) (omega arith) (either 1 (m == 126) Foreign (found shape.Assign 1) tt (omega arith)))), ((λ m l. omega arith), ((λ m l. omega arith), ((λ m l. either 1 (m == 58) (found shape.Scope 2) (found shape.Colon 1) (omega arith) (omega arith)), ((λ m l. omega arith), ((λ m l. either 1 (m == 46) Foreign (found shape.Dot 1) tt (omega arith)), ((λ m l. omega arith), ((λ m l. omega arith), ((λ m l. omega arith), ((λ m l. omega arith), ((λ m l. either 1 (m == 93) (if l == 61 then found shape.IndexAssign 3 else found shape.Index 2) (found shape.OpenBracket 1) (either 1 (l == 61) (found shape.IndexAssign 3) (found shape.Index 2) (omega arith) (omega arith)) (omega arith)), ((λ m l. omega arith), ((λ m l. omega arith), ((λ m l. omega arith), ((λ m l. omega arith), ((λ m l. omega arith), ((λ m l. omega arith), ((λ m l. omega arith), ((λ m l. omega arith), ((λ m l. omega arith), ((λ m l. omega arith), ((λ m l. omega arith), ((λ m l. omega arith), ((λ m l. omega arith), ((λ m l. omega arith), ((λ m l. omega arith), ((λ m l. omega arith), tt))))))))))))))))))))))))))))))))))))))))))))))))))
+name-rows = (
+  (λ m l. either 1 (m == 64) _ _ (omega arith) (or_assign-some m shape.Plus shape.PlusAssign)),
+  (
+    (λ m l. either 1 (m == 64) _ _ (omega arith) (minus-some m)),
+    (
+      (λ m l. star-some m l),
+      (
+        (λ m l. or_assign-some m shape.Slash shape.SlashAssign),
+        (
+          (λ m l. or_assign-some m shape.Percent shape.PercentAssign),
+          (
+            (λ m l. three-or-two 2 m 61 shape.PowerAssign shape.Power (omega arith)),
+            (
+              (λ m l. three-or-two 2 m 61 shape.CaseEqual shape.Equal (omega arith)),
+              (
+                (λ m l. omega arith),
+                (
+                  (λ m l. omega arith),
+                  (
+                    (λ m l. omega arith),
+                    (
+                      (λ m l. less-some m l),
+                      (
+                        (λ m l. greater-some m l),
+                        (
+                          (λ m l. three-or-two 2 m 62 shape.Compare shape.LessEqual (omega arith)),
+                          (
+                            (λ m l. omega arith),
+                            (
+                              (λ m l. three-or-two 2 m 61 shape.AndAssign shape.AndAnd (omega arith)),
+                              (
+                                (λ m l. three-or-two 2 m 61 shape.OrAssign shape.OrOr (omega arith)),
+                                (
+                                  (λ m l. not-some m),
+                                  (
+                                    (λ m l. omega arith),
+                                    (
+                                      (λ m l. ampersand-some m l),
+                                      (
+                                        (λ m l. pipe-some m l),
+                                        (
+                                          (λ m l. or_assign-some m shape.Caret shape.CaretAssign),
+                                          (
+                                            (λ m l. three-or-two 2 m 61 shape.ShiftLeftAssign shape.ShiftLeft (omega arith)),
+                                            (
+                                              (λ m l. three-or-two 2 m 61 shape.ShiftRightAssign shape.ShiftRight (omega arith)),
+                                              (
+                                                (λ m l. equals-some m l),
+                                                (
+                                                  (λ m l. omega arith),
+                                                  (
+                                                    (λ m l. omega arith),
+                                                    (
+                                                      (λ m l. colon-some m),
+                                                      (
+                                                        (λ m l. omega arith),
+                                                        (
+                                                          (λ m l. dot-some m),
+                                                          (
+                                                            (λ m l. omega arith),
+                                                            (
+                                                              (λ m l. omega arith),
+                                                              (
+                                                                (λ m l. omega arith),
+                                                                (
+                                                                  (λ m l. omega arith),
+                                                                  (
+                                                                    (λ m l. either 1 (m == 93) _ _ (three-or-two 1 l 61 shape.IndexAssign shape.Index (omega arith)) (omega arith)),
+                                                                    (
+                                                                      (λ m l. omega arith),
+                                                                      (
+                                                                        (λ m l. omega arith),
+                                                                        (
+                                                                          (λ m l. omega arith),
+                                                                          (
+                                                                            (λ m l. omega arith),
+                                                                            (
+                                                                              (λ m l. omega arith),
+                                                                              (
+                                                                                (λ m l. omega arith),
+                                                                                (
+                                                                                  (λ m l. omega arith),
+                                                                                  (
+                                                                                    (λ m l. omega arith),
+                                                                                    (
+                                                                                      (λ m l. omega arith),
+                                                                                      (
+                                                                                        (λ m l. omega arith),
+                                                                                        (
+                                                                                          (λ m l. omega arith),
+                                                                                          (
+                                                                                            (λ m l. omega arith),
+                                                                                            (
+                                                                                              (λ m l. omega arith),
+                                                                                              ((λ m l. omega arith), ((λ m l. omega arith), ((λ m l. omega arith), tt))),
+                                                                                            ),
+                                                                                          ),
+                                                                                        ),
+                                                                                      ),
+                                                                                    ),
+                                                                                  ),
+                                                                                ),
+                                                                              ),
+                                                                            ),
+                                                                          ),
+                                                                        ),
+                                                                      ),
+                                                                    ),
+                                                                  ),
+                                                                ),
+                                                              ),
+                                                            ),
+                                                          ),
+                                                        ),
+                                                      ),
+                                                    ),
+                                                  ),
+                                                ),
+                                              ),
+                                            ),
+                                          ),
+                                        ),
+                                      ),
+                                    ),
+                                  ),
+                                ),
+                              ),
+                            ),
+                          ),
+                        ),
+                      ),
+                    ),
+                  ),
+                ),
+              ),
+            ),
+          ),
+        ),
+      ),
+    ),
+  ),
+)
 
 method-rows : EachRow (λ (row : Shape × List ℕ). AtFront method_name row.1) METHOD_OPERATORS
 unfolding operator method_name

@@ -1,5 +1,5 @@
 -- Which spellings can begin with a character.
-use Rattle.std.proofs.Common.{◌≡◌, ℕ, ◌⊎◌, Bool, true, false, ◌==◌, if◌then◌else◌, List, [], ◌∷◌, ◌++◌, inl, inr, refl, sym, ap, subst, ◌∙◌, arith}
+use Rattle.std.proofs.Common.{◌≡◌, ℕ, ◌⊎◌, Bool, true, false, ◌==◌, ◌||◌, if◌then◌else◌, List, [], ◌∷◌, ◌++◌, inl, inr, refl, sym, ap, subst, ◌∙◌, arith}
 use Rattle.std.proofs.lemmas.Grind.{common_steps}
 use Rattle.std.proofs.lemmas.Bool.Decides.{nat_tests}
 use Rattle.rb_tree.specs.declared.token.Shape.{Shape}
@@ -13,8 +13,8 @@ use Rattle.rb_rules.specs.Spellings.IsWhole.{Zero, Decimal, Hexadecimal, Binary,
 use Rattle.rb_rules.specs.Spellings.IsFloat.{Fraction}
 use Rattle.rb_rules.specs.Before.{IsAfterDot, NamesMethod}
 use Rattle.rb_rules.specs.Lexes.{IsWord, Spells}
-use Rattle.rb_lex_laws.proofs.Lists.{if-true, if-false, head-same}
-use Rattle.rb_lex_laws.proofs.Rows.{EachRow, at-row}
+use Rattle.rb_lex_laws.proofs.Lists.{if-true, if-false, head-same, or-either}
+use Rattle.rb_lex_laws.proofs.Rows.{EachRow, at-row, each-by}
 
 pub data Kind : Type 0 where
   Name : Kind
@@ -135,6 +135,41 @@ whole-first _ (Octal w h) = record { first = 48; others = 111 ∷ w; whole = ref
 pub float-first : (w : List ℕ) → IsFloat w → First w Kind.Digit
 float-first _ (Fraction a b e ha hb he) = more-first (a ++ 46 ∷ b) e Kind.Digit (more-first a (46 ∷ b) Kind.Digit (digits-first a ha))
 
+-- ---- first characters by tests
+
+abbrev pub is_name : Kind → Bool
+is_name Kind.Name = true
+is_name _ = false
+
+abbrev pub is_colon : Kind → Bool
+is_colon Kind.Colon = true
+is_colon _ = false
+
+abbrev pub is_sign : Kind → Bool
+is_sign Kind.Sign = true
+is_sign _ = false
+
+pub name-is : (k : Kind) → is_name k ≡ true → k ≡ Kind.Name
+name-is Kind.Name e = refl
+name-is _ e = absurd (cc)
+
+pub colon-is : (k : Kind) → is_colon k ≡ true → k ≡ Kind.Colon
+colon-is Kind.Colon e = refl
+colon-is _ e = absurd (cc)
+
+pub sign-is : (k : Kind) → is_sign k ≡ true → k ≡ Kind.Sign
+sign-is Kind.Sign e = refl
+sign-is _ e = absurd (cc)
+
+-- the test passes the kind of the first character
+abbrev pub is_first : (Kind → Bool) → List ℕ → Bool
+is_first test [] = false
+is_first test (c ∷ w) = test (kind c)
+
+pub first-is : (test : Kind → Bool) (k : Kind) → ((j : Kind) → test j ≡ true → j ≡ k) → (w : List ℕ) → is_first test w ≡ true → First w k
+first-is test k told [] e = absurd (cc)
+first-is test k told (c ∷ w) e = record { first = c; others = w; whole = refl; kind_is = told (kind c) e }
+
 -- an operator begins with `:`, or with a character that begins nothing else
 abbrev pub SignFirst : Shape × List ℕ → Type 0
 SignFirst row = (c : ℕ) × (w : List ℕ) × (row.1 ≡ c ∷ w) × ((kind c ≡ Kind.Colon) ⊎ (kind c ≡ Kind.Sign))
@@ -143,7 +178,15 @@ abbrev pub MethodFirst : Shape × List ℕ → Type 0
 MethodFirst row = (c : ℕ) × (w : List ℕ) × (row.1 ≡ c ∷ w) × (kind c ≡ Kind.Sign)
 
 pub sign-rows : EachRow SignFirst OPERATORS
-sign-rows = ((43, [], refl, inr refl), ((45, [], refl, inr refl), ((42, [], refl, inr refl), ((47, [], refl, inr refl), ((37, [], refl, inr refl), ((42, 42 ∷ [], refl, inr refl), ((61, 61 ∷ [], refl, inr refl), ((33, 61 ∷ [], refl, inr refl), ((61, 61 ∷ 61 ∷ [], refl, inr refl), ((60, 61 ∷ 62 ∷ [], refl, inr refl), ((60, [], refl, inr refl), ((62, [], refl, inr refl), ((60, 61 ∷ [], refl, inr refl), ((62, 61 ∷ [], refl, inr refl), ((38, 38 ∷ [], refl, inr refl), ((124, 124 ∷ [], refl, inr refl), ((33, [], refl, inr refl), ((126, [], refl, inr refl), ((38, [], refl, inr refl), ((124, [], refl, inr refl), ((94, [], refl, inr refl), ((60, 60 ∷ [], refl, inr refl), ((62, 62 ∷ [], refl, inr refl), ((61, [], refl, inr refl), ((61, 62 ∷ [], refl, inr refl), ((63, [], refl, inr refl), ((58, [], refl, inl refl), ((58, 58 ∷ [], refl, inl refl), ((46, [], refl, inr refl), ((38, 46 ∷ [], refl, inr refl), ((44, [], refl, inr refl), ((40, [], refl, inr refl), ((41, [], refl, inr refl), ((91, [], refl, inr refl), ((93, [], refl, inr refl), ((123, [], refl, inr refl), ((125, [], refl, inr refl), ((43, 61 ∷ [], refl, inr refl), ((45, 61 ∷ [], refl, inr refl), ((42, 61 ∷ [], refl, inr refl), ((47, 61 ∷ [], refl, inr refl), ((37, 61 ∷ [], refl, inr refl), ((42, 42 ∷ 61 ∷ [], refl, inr refl), ((124, 124 ∷ 61 ∷ [], refl, inr refl), ((38, 38 ∷ 61 ∷ [], refl, inr refl), ((124, 61 ∷ [], refl, inr refl), ((38, 61 ∷ [], refl, inr refl), ((94, 61 ∷ [], refl, inr refl), ((60, 60 ∷ 61 ∷ [], refl, inr refl), ((62, 62 ∷ 61 ∷ [], refl, inr refl), tt))))))))))))))))))))))))))))))))))))))))))))))))))
+sign-rows = each-by SignFirst (λ row. is_first (λ k. is_colon k || is_sign k) row.1) (λ row. either row.1) OPERATORS refl
+  where
+    either : (w : List ℕ) → is_first (λ k. is_colon k || is_sign k) w ≡ true → (c : ℕ) × (v : List ℕ) × (w ≡ c ∷ v) × ((kind c ≡ Kind.Colon) ⊎ (kind c ≡ Kind.Sign))
+    either [] e = absurd (cc)
+    either (c ∷ v) e = (c, v, refl, which (or-either (is_colon (kind c)) (is_sign (kind c)) e))
+      where
+        which : (is_colon (kind c) ≡ true) ⊎ (is_sign (kind c) ≡ true) → (kind c ≡ Kind.Colon) ⊎ (kind c ≡ Kind.Sign)
+        which (inl h) = inl (colon-is (kind c) h)
+        which (inr h) = inr (sign-is (kind c) h)
 
 pub method-rows : EachRow MethodFirst METHOD_OPERATORS
 method-rows = ((45, 64 ∷ [], refl, refl), ((43, 64 ∷ [], refl, refl), ((91, 93 ∷ [], refl, refl), ((91, 93 ∷ 61 ∷ [], refl, refl), tt))))
