@@ -1,5 +1,5 @@
 -- What derives is what the parser answers, and no tokens have two trees.
-use Rattle.std.specs.Prelude.{◌≡◌, ◌↔◌, ℕ, suc, ◌+◌, ◌<◌, ◌≤◌, Bool, false, List, [], ◌∷◌, length, Ok, Err}
+use Rattle.std.specs.Prelude.{◌≡◌, ◌↔◌, ℕ, suc, ◌+◌, ◌-◌, ◌<◌, ◌≤◌, min, Bool, false, List, [], ◌∷◌, length, Ok, Err}
 use Rattle.rb_tree.specs.declared.syntax.Tree.{Tree}
 use Rattle.rb_tree.specs.declared.token.Token.{Token}
 use Rattle.rb_tree.specs.declared.token.Shape.TheVariants as shape
@@ -42,6 +42,10 @@ DerivesAs form.Tern free t xs ys = DerivesTerm free t xs ys
 DerivesAs (form.Operation least) free t xs ys = (level : ℕ) × (least ≡ suc level) × (level ≤ 9) × DerivesLevel level free t xs ys
 DerivesAs form.Negated free t xs ys = DerivesLevel 9 free t xs ys
 DerivesAs form.Prefixed free t xs ys = DerivesPrefixed free t xs ys
+
+-- What is read of an operation derives, whichever number its level has: where no operator has it, at the nearest.
+abbrev pub OperationsDerive : Type 0
+OperationsDerive = (depth least : ℕ) (free : Bool) (tokens rest : List Token) (t : Tree) → parsed depth (form.Operation least) free tokens ≡ Ok (t, rest) → DerivesLevel (min 9 (least - 1)) free t tokens rest
 
 -- What derives as a form, before tokens that end one, is read of it: this tree, and those tokens are left.
 abbrev pub FormsAnswer : Type 0

@@ -6,7 +6,7 @@
 #![tactic(auto)]
 
 ghost use Rattle.rb_grammar_laws.specs.Examples.{APART, DISORDER, EQUALITIES, HasNoTree, INNER, REPEATED, TWICE, UNDIVIDED};
-ghost use Rattle.rb_grammar_laws.specs.Laws.{BodiesBegin, FormsAnswer, OneReading, OneTree, ParsedExactly, ProgramsAnswer, RefusedAreNone, RescuedAnswer, RescuedBegin, SimpleBegin, TermsBegin};
+ghost use Rattle.rb_grammar_laws.specs.Laws.{BodiesBegin, FormsAnswer, OneReading, OneTree, OperationsDerive, ParsedExactly, ProgramsAnswer, RefusedAreNone, RescuedAnswer, RescuedBegin, SimpleBegin, TermsBegin};
 
 /// The first token of a term, of a simple statement and of a body is one of these, also where a `rescue` follows the body.
 pub fn forms_begin()
@@ -14,6 +14,11 @@ pub fn forms_begin()
     ensures simple { SimpleBegin }
     ensures bodies { BodiesBegin }
     ensures rescued { RescuedBegin }
+{}
+
+/// What is read of an operation derives, also where its level is 0 or past the tightest operator: then at the nearest level.
+pub fn operations_derive()
+    ensures { OperationsDerive }
 {}
 
 /// What derives as a form, before tokens that end one, is read of it; so is a body before a `rescue` that a separator or nothing
