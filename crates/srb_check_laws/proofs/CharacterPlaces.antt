@@ -44,7 +44,7 @@ continuing-encodes (c ∷ cs) =
     let e : continues s.lead ≡ false = begins c s in
     ap (λ v. continuing (v ++ encodes cs)) s.bytes ∙ rw e refl
 
-first_size-encodes : (c : ℕ) (cs : List ℕ) → first_size (encodes (c ∷ cs)) ≡ len_utf8 c
+pub first_size-encodes : (c : ℕ) (cs : List ℕ) → first_size (encodes (c ∷ cs)) ≡ len_utf8 c
 first_size-encodes c cs =
     let s : Spelled c = spelled c in
     ap (λ v. first_size (v ++ encodes cs)) s.bytes

@@ -5,3 +5,6 @@ pub mod SymbolPlaces
 pub mod ArrangedPlaces
 pub mod ErrorPlaces
 pub mod SameFacts
+pub mod ShownPlaces
+pub mod Loaded
+pub mod LoadedExamples

@@ -1,2 +1,4 @@
+pub mod Loaded
+pub mod LoadedExamples
 pub mod Placed
 pub mod Summaries
