@@ -52,14 +52,14 @@ pub record IsProgram (text : List ℕ) (tree : Tree) : Type 0 where
   pub derives : Derives tokens tree
   pub shallow : (turn : ℕ) → ¬ DeepByRoles derives turn
 
--- The text is no Ruby at this place: at a character that begins no token, at a token with which no program goes on, or at the text's end,
--- where more tokens are wanted. No token before it nests too deep.
+-- The text is no Ruby at this place: at a character with which no token begins or an ambiguous one does, at a token with which no program
+-- goes on, or at the text's end, where a string or the tokens end too early. No token before it nests too deep.
 pub data IsNoRuby (text : List ℕ) : Span → Type 0 where
   AtCharacter : (at : ℕ) (span : Span) → BadCharAt text at → IsCharacterOrEnd text at span → IsNoRuby text span
   AtToken : (tokens : List Token) (at : ℕ) (span : Span) → Lexes text tokens → (bad : BadAt tokens at) → IsShallow bad.before bad.begins → IsToken tokens at span → IsNoRuby text span
   AtEnd : (tokens : List Token) → Lexes text tokens → (early : EndsEarly tokens) → IsShallow tokens early.begins → IsNoRuby text (end_of_text text)
 
--- a form that is outside the profile begins at this character
+-- a form that is outside the profile begins at this character, the first such place in the text
 pub data IsOutside (text : List ℕ) : Span → Type 0 where
   AtForm : (at : ℕ) (span : Span) → OutsideAt text at → IsCharacterOrEnd text at span → IsOutside text span
 

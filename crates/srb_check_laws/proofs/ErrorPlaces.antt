@@ -13,9 +13,9 @@ use Rattle.rb_lex.specs.Lexed.{lexed_text}
 use Rattle.rb_lex.specs.declared.LexEnd.{LexEnd}
 use Rattle.rb_lex.specs.declared.LexEnd.TheVariants as lex
 use Rattle.rb_lex_laws.specs.Tokens.{StandInOrder}
-use Rattle.srb_text.specs.Positions.{IsStart}
 use Rattle.rb_lex_laws.proofs.Standing.{tokens-stand, places-start}
 use Rattle.rb_lex_laws.proofs.Told.{tokens-told}
+use Rattle.rb_rules.specs.Grammar.{Derives}
 use Rattle.rb_expr.specs.declared.ParseEnd.{ParseEnd}
 use Rattle.rb_expr.specs.declared.ParseEnd.TheVariants as parse
 use Rattle.rb_decl.specs.Programs.{parsed}
@@ -29,7 +29,7 @@ use Rattle.srb_check.specs.Levels.{LARGEST_FILE, hides_all, needs_signatures}
 use Rattle.srb_check.specs.Symbols.{symbol_errors}
 use Rattle.srb_check.specs.Messages.{too_large, not_utf8}
 use Rattle.srb_check.specs.Types.{knowledge_of, type_errors}
-use Rattle.srb_check_laws.specs.Placed.{IsPlace, AreAtPlaces}
+use Rattle.srb_check_laws.specs.Placed.{IsPlace, AreAtPlaces, ErrorsStandAtTokens, IsPlaceOfNode, TypeErrorsStandAtNodes}
 use Rattle.srb_check.specs.Readings.{lex_error, parse_error, parsed_reading, lexed_reading, read}
 use Rattle.srb_conflicts.specs.Conflicts.{conflict_errors}
 use Rattle.srb_declarations.specs.Declarations.{declarations_of}
@@ -40,9 +40,10 @@ use Rattle.srb_references.specs.MalformedTypes.{malformed_errors, types_of}
 use Rattle.srb_references.specs.References.{reference_errors, references_of}
 use Rattle.srb_references_laws.proofs.Programs.{programs-refer}
 use Rattle.srb_references_laws.proofs.Types.{malformed-stand}
-use Rattle.srb_sig.specs.Views.{View, view_of}
+use Rattle.srb_sig.specs.Views.{view_of}
 use Rattle.srb_signatures.specs.Errors.{signature_errors}
 use Rattle.srb_signatures_laws.proofs.Places.{signatures-stand}
+use Rattle.rb_places_laws.specs.ErrorPlaces.{HasErrorPlaces}
 use Rattle.rb_places_laws.specs.TokenPlaces.{IsTreePlaced, IsPlaceOfError}
 use Rattle.rb_places_laws.proofs.Programs.{programs_have_error_places}
 use Rattle.rb_rewrite.specs.Rewriting.{attrs_of}
@@ -52,36 +53,84 @@ use Rattle.srb_judgement.specs.Judgements.{errors_of as judged_errors}
 use Rattle.srb_language.specs.Asked.{language_of}
 use Rattle.srb_language.specs.Knowledge.{Knowledge}
 use Rattle.srb_judgement_laws.proofs.ErrorPlaces.{project-errors-have}
-use Rattle.srb_check_laws.proofs.ArrangedPlaces.{append-at_places, arranged-at_places}
+use Rattle.srb_check_laws.proofs.ArrangedPlaces.{arranged-at}
 use Rattle.srb_check_laws.proofs.CharacterPlaces.{text-start, character-end}
-use Rattle.srb_check_laws.proofs.HeadPlaces.{IsSpelled, tokens-spelled, tree-in_text, place_of_error-in_text}
+use Rattle.srb_check_laws.proofs.HeadPlaces.{IsSpelled, tokens-spelled, place_of_error-in_text}
 use Rattle.srb_check_laws.proofs.SymbolPlaces.{AreErrorsAt, errors-append, conflicts-at, references-at}
-use Rattle.srb_check_laws.proofs.TokenPlaces.{InText, placed-in_text, token_place-in_text}
+use Rattle.srb_check_laws.proofs.TokenPlaces.{InText, token_place-in_text}
+
+-- ---- the errors of a program
+
+-- the errors that are shown are among them
+shown-at : (P : Span → Type 0) (level : Level) (errors : List Diag) → AreErrorsAt P errors → AreErrorsAt P (filter (λ e. is_shown level e.number) errors)
+shown-at P level [] h = tt
+shown-at P level (e ∷ errors) h = by (is_shown level e.number) (shown-at P level errors h.1)
+  where
+    by : (shown : Bool) → AreErrorsAt P (filter (λ e. is_shown level e.number) errors)
+        → AreErrorsAt P (if shown then e ∷ filter (λ e. is_shown level e.number) errors else filter (λ e. is_shown level e.number) errors)
+    by true later = (h.0, later)
+    by false later = later
+
+types-at : (P : Span → Type 0) (facts : List Fact) (level : Level) (tree : Tree) → ((k : Knowledge) → AreErrorsAt P (judged_errors (language_of k) (attrs_of tree)))
+    → AreErrorsAt P (type_errors facts level tree)
+unfolding type_errors
+types-at P facts level tree h = shown-at P level (judged_errors (language_of (knowledge_of facts)) (attrs_of tree)) (h (knowledge_of facts))
+
+-- those of declarations, of references, of malformed type expressions and of signatures
+symbols-at : (P : Span → Type 0) (facts : List Fact) (level : Level) (tree : Tree) → Each (λ d. P (place_of d)) (declarations_of tree) → Each (λ (r : Reference). P r.span) (references_of tree)
+    → AreErrorsAt P (malformed_errors (view_of facts) (types_of tree)) → AreErrorsAt P (signature_errors (needs_signatures level) tree) → AreErrorsAt P (symbol_errors facts level tree)
+symbols-at P facts level tree declared referred malformed signed =
+    let conflicts = conflict_errors facts (declarations_of tree) in
+    let unfound = reference_errors facts (references_of tree) in
+    let forms = malformed_errors (view_of facts) (types_of tree) in
+    errors-append P (conflicts ++ unfound ++ forms) (signature_errors (needs_signatures level) tree)
+    (errors-append P (conflicts ++ unfound) forms
+    (errors-append P conflicts unfound (conflicts-at P facts (declarations_of tree) declared) (references-at P facts (references_of tree) referred)) malformed)
+    signed
+
+each-placed : {X : Type 0} (place : X → Span) (tokens : List Token) (xs : List X) → Each (λ x. IsPlaced tokens (place x)) xs → Each (λ x. IsPlaceOfError tokens (place x)) xs
+each-placed place tokens [] h = tt
+each-placed place tokens (x ∷ xs) h = (inl (inl h.0), each-placed place tokens xs h.1)
+
+trees-placed : (tokens : List Token) (es : List Diag) → Each (λ (e : Diag). IsTreePlaced tokens e.span) es → Each (λ (e : Diag). IsPlaceOfError tokens e.span) es
+trees-placed tokens [] h = tt
+trees-placed tokens (e ∷ es) h = (inl h.0, trees-placed tokens es h.1)
+
+pub errors-at-tokens : ErrorsStandAtTokens
+errors-at-tokens facts level tokens tree derives =
+    let P : Span → Type 0 = IsPlaceOfError tokens in
+    let stands = trees-stand-at-tokens tokens tree derives in
+    let symbols = symbols-at P facts level tree
+    (each-placed place_of tokens (declarations_of tree) (programs-declare tokens tree derives))
+    (each-placed (λ (r : Reference). r.span) tokens (references_of tree) (programs-refer tokens tree derives))
+    (trees-placed tokens (malformed_errors (view_of facts) (types_of tree)) (malformed-stand tokens (view_of facts) tree stands))
+    (each-placed (λ (e : Diag). e.span) tokens (signature_errors (needs_signatures level) tree) (signatures-stand tokens (needs_signatures level) tree stands)) in
+    let types = types-at P facts level tree (λ k. project-errors-have P k (attrs_of tree) (rewritten-has P tree (programs_have_error_places tokens tree derives))) in
+    arranged-at P (symbol_errors facts level tree ++ type_errors facts level tree) (errors-append P (symbol_errors facts level tree) (type_errors facts level tree) symbols types)
+
+-- ---- nodes
+
+pub type-errors-at-nodes : TypeErrorsStandAtNodes
+type-errors-at-nodes facts level tree = each (type_errors facts level tree) (λ test has.
+    let P : Span → Type 0 = λ place. test place ≡ true in
+    types-at P facts level tree (λ k. project-errors-have P k (attrs_of tree) (rewritten-has P tree has)))
+  where
+    each : (errors : List Diag) → ((test : Span → Bool) → HasErrorPlaces (λ place. test place ≡ true) tree → AreErrorsAt (λ place. test place ≡ true) errors)
+        → Each (λ (e : Diag). IsPlaceOfNode tree e.span) errors
+    each [] h = tt
+    each (e ∷ errors) h = (λ test has. (h test has).0, each errors (λ test has. (h test has).1))
 
 -- ---- what a text is read to
 
--- the error stands in the text, or each that the tree may have, whatever is known of its project
+-- the error stands in the text, or the tree is that of tokens that stand there
 abbrev IsReadingIn : List ℕ → Reading → Type 0
 IsReadingIn text (Refused error) = InText text error.span
-IsReadingIn text (Program tree) =
-    ((k : Knowledge) → Each (λ (e : Diag). InText text e.span) (judged_errors (language_of k) (attrs_of tree))) × Each (λ d. InText text (place_of d)) (declarations_of tree) × Each (λ (r : Reference). InText text r.span) (references_of tree)
-    × ((needed : Bool) → Each (λ (e : Diag). InText text e.span) (signature_errors needed tree))
-    × ((v : View) → Each (λ (e : Diag). InText text e.span) (malformed_errors v (types_of tree)))
+IsReadingIn text (Program tree) = (tokens : List Token) × StandInOrder text 0 tokens × Each IsSpelled tokens × Derives tokens tree
 
-each-in : {X : Type 0} (place : X → Span) (text : List ℕ) (tokens : List Token) → StandInOrder text 0 tokens → (xs : List X)
-    → Each (λ x. IsPlaced tokens (place x)) xs → Each (λ x. InText text (place x)) xs
-each-in place text tokens stand [] h = tt
-each-in place text tokens stand (x ∷ xs) h = (placed-in_text text tokens stand (place x) h.0, each-in place text tokens stand xs h.1)
-
-trees-in : (text : List ℕ) (tokens : List Token) → StandInOrder text 0 tokens → (es : List Diag)
-    → Each (λ (e : Diag). IsTreePlaced tokens e.span) es → Each (λ (e : Diag). InText text e.span) es
-trees-in text tokens stand [] h = tt
-trees-in text tokens stand (e ∷ es) h = (tree-in_text text tokens stand e.span h.0, trees-in text tokens stand es h.1)
-
-judged-in : (text : List ℕ) (tokens : List Token) → StandInOrder text 0 tokens → Each IsSpelled tokens → (es : List Diag)
+errors-in : (text : List ℕ) (tokens : List Token) → StandInOrder text 0 tokens → Each IsSpelled tokens → (es : List Diag)
     → Each (λ (e : Diag). IsPlaceOfError tokens e.span) es → Each (λ (e : Diag). InText text e.span) es
-judged-in text tokens stand spelled [] h = tt
-judged-in text tokens stand spelled (e ∷ es) h = (place_of_error-in_text text tokens stand spelled e.span h.0, judged-in text tokens stand spelled es h.1)
+errors-in text tokens stand spelled [] h = tt
+errors-in text tokens stand spelled (e ∷ es) h = (place_of_error-in_text text tokens stand spelled e.span h.0, errors-in text tokens stand spelled es h.1)
 
 parse_error-in : (text : List ℕ) (tokens : List Token) → StandInOrder text 0 tokens → (end : ParseEnd) → InText text (parse_error tokens (length (encode_utf8_all text)) end).span
 parse_error-in text tokens stand (parse.Bad at) = token_place-in_text text 0 tokens at stand
@@ -89,15 +138,7 @@ parse_error-in text tokens stand (parse.TooDeep at) = token_place-in_text text 0
 parse_error-in text tokens stand parse.NoMemory = token_place-in_text text 0 tokens 0 stand
 
 parsed-in : (text : List ℕ) (tokens : List Token) → StandInOrder text 0 tokens → Each IsSpelled tokens → (r : Result Tree ParseEnd) → parsed tokens ≡ r → IsReadingIn text (parsed_reading tokens (length (encode_utf8_all text)) r)
-parsed-in text tokens stand spelled (Ok t) e =
-    let derives = programs-derive tokens t e in (
-      (λ k. judged-in text tokens stand spelled (judged_errors (language_of k) (attrs_of t))
-          (project-errors-have (IsPlaceOfError tokens) k (attrs_of t) (rewritten-has (IsPlaceOfError tokens) t (programs_have_error_places tokens t derives)))),
-      each-in place_of text tokens stand (declarations_of t) (programs-declare tokens t derives),
-      each-in (λ (r : Reference). r.span) text tokens stand (references_of t) (programs-refer tokens t derives),
-      (λ needed. each-in (λ (e : Diag). e.span) text tokens stand (signature_errors needed t) (signatures-stand tokens needed t (trees-stand-at-tokens tokens t derives))),
-      (λ v. trees-in text tokens stand (malformed_errors v (types_of t)) (malformed-stand tokens v t (trees-stand-at-tokens tokens t derives))),
-    )
+parsed-in text tokens stand spelled (Ok t) e = (tokens, stand, spelled, programs-derive tokens t e)
 parsed-in text tokens stand spelled (Err end) e = parse_error-in text tokens stand end
 
 lex_error-in : (text : List ℕ) (end : LexEnd) → lexed_text text ≡ Err end → InText text (lex_error (encode_utf8_all text) end).span
@@ -122,38 +163,11 @@ errors-places : (bytes : List ℕ) → IsUtf8 bytes → (errors : List Diag) →
 errors-places bytes utf8 [] h = tt
 errors-places bytes utf8 (e ∷ errors) h = let both = place-in bytes utf8 e.span h.0 in (both.0, both.1, both.2, errors-places bytes utf8 errors h.1)
 
--- an error, if it is shown, before others
-shown-first : (P : Span → Type 0) (shown : Bool) (e : Diag) (rest : List Diag) → P e.span → AreErrorsAt P rest → AreErrorsAt P (if shown then e ∷ rest else rest)
-shown-first P true e rest here later = (here, later)
-shown-first P false e rest here later = later
-
--- the errors that are shown are among them
-shown-at : (P : Span → Type 0) (level : Level) (errors : List Diag) → AreErrorsAt P errors → AreErrorsAt P (filter (λ e. is_shown level e.number) errors)
-shown-at P level [] h = tt
-shown-at P level (e ∷ errors) h =
-    shown-first P (is_shown level e.number) e (filter (λ e. is_shown level e.number) errors) h.0 (shown-at P level errors h.1)
-
-types-at : (P : Span → Type 0) (facts : List Fact) (level : Level) (tree : Tree) → ((k : Knowledge) → AreErrorsAt P (judged_errors (language_of k) (attrs_of tree)))
-    → AreErrorsAt P (type_errors facts level tree)
-unfolding type_errors
-types-at P facts level tree h = shown-at P level (judged_errors (language_of (knowledge_of facts)) (attrs_of tree)) (h (knowledge_of facts))
-
 reading_errors-places : (bytes : List ℕ) → IsUtf8 bytes → (facts : List Fact) (level : Level) (reading : Reading) → IsReadingIn (chars bytes) reading → AreAtPlaces bytes (reading_errors facts level reading)
 reading_errors-places bytes utf8 facts level (Refused error) h = let both = place-in bytes utf8 error.span h in (both.0, both.1, both.2, tt)
-reading_errors-places bytes utf8 facts level (Program tree) h =
-    arranged-at_places bytes (symbol_errors facts level tree ++ type_errors facts level tree)
-    (append-at_places bytes (symbol_errors facts level tree) (type_errors facts level tree)
-    (errors-places bytes utf8 (symbol_errors facts level tree)
-    (errors-append (InText (chars bytes))
-    (conflict_errors facts (declarations_of tree) ++ reference_errors facts (references_of tree) ++ malformed_errors (view_of facts) (types_of tree))
-    (signature_errors (needs_signatures level) tree)
-    (errors-append (InText (chars bytes)) (conflict_errors facts (declarations_of tree) ++ reference_errors facts (references_of tree))
-    (malformed_errors (view_of facts) (types_of tree))
-    (errors-append (InText (chars bytes)) (conflict_errors facts (declarations_of tree)) (reference_errors facts (references_of tree))
-    (conflicts-at (InText (chars bytes)) facts (declarations_of tree) h.1) (references-at (InText (chars bytes)) facts (references_of tree) h.2))
-    (h.4 (view_of facts)))
-    (h.3 (needs_signatures level))))
-    (errors-places bytes utf8 (type_errors facts level tree) (types-at (InText (chars bytes)) facts level tree h.0)))
+reading_errors-places bytes utf8 facts level (Program tree) (tokens, stand, spelled, derives) =
+    errors-places bytes utf8 (reading_errors facts level (Program tree))
+    (errors-in (chars bytes) tokens stand spelled (reading_errors facts level (Program tree)) (errors-at-tokens facts level tokens tree derives))
 
 text_errors-places : (bytes : List ℕ) → IsUtf8 bytes → (facts : List Fact) → AreAtPlaces bytes (text_errors facts (chars bytes))
 text_errors-places bytes utf8 facts = by_level (hides_all (level_of_text (chars bytes)))

@@ -1,5 +1,5 @@
 -- Files that declare the same give the same facts.
-use Rattle.std.proofs.Common.{◌≡◌, ap, subst}
+use Rattle.std.proofs.Common.{ap, subst}
 use Rattle.srb_builtin.specs.Table.{built_in}
 use Rattle.srb_rules.specs.Standing.{Stands}
 use Rattle.srb_table.specs.Steps.{facts_of}

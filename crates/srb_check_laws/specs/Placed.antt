@@ -1,8 +1,20 @@
 -- The places at which errors stand.
-use Rattle.std.specs.Prelude.{◌≡◌, ℕ, ◌≤◌, ◌⊎◌, List, [], ◌∷◌, chars}
+use Rattle.std.specs.Prelude.{◌≡◌, ℕ, ◌≤◌, ◌⊎◌, Bool, true, List, [], ◌∷◌, chars}
 use Rattle.std.specs.Str.{IsUtf8}
 use Rattle.srb_terms.specs.declared.diag.Diag.{Diag}
+use Rattle.srb_terms.specs.declared.fact.Fact.{Fact}
+use Rattle.srb_terms.specs.declared.level.Level.{Level}
+use Rattle.srb_terms.specs.declared.span.Span.{Span}
 use Rattle.srb_text.specs.Positions.{IsStart}
+use Rattle.rb_tree.specs.declared.syntax.Tree.{Tree}
+use Rattle.rb_tree.specs.declared.token.Token.{Token}
+use Rattle.rb_rules.specs.Grammar.{Derives}
+use Rattle.rb_grammar.specs.Places.{Each}
+use Rattle.rb_places_laws.specs.ErrorPlaces.{HasErrorPlaces}
+use Rattle.rb_places_laws.specs.TokenPlaces.{IsPlaceOfError}
+use Rattle.srb_check.specs.Checks.{reading_errors}
+use Rattle.srb_check.specs.Types.{type_errors}
+use Rattle.srb_check.specs.declared.reading.Reading.TheVariants.{Program}
 
 -- an offset is a place of a file: it is the file's start, or the file is UTF-8 and a character starts there, or the file
 -- ends there
@@ -14,3 +26,18 @@ abbrev pub AreAtPlaces : List ℕ → List Diag → Type 0
 AreAtPlaces bytes [] = Unit {0}
 AreAtPlaces bytes (error ∷ errors) =
     IsPlace bytes error.span.start × IsPlace bytes error.span.end × (error.span.start ≤ error.span.end) × AreAtPlaces bytes errors
+
+-- Each error of a program stands at its tokens, whatever the facts of its project are: it starts where a token does and ends where that or a
+-- later one does, or stands at the first bytes of such a place or at the start.
+abbrev pub ErrorsStandAtTokens : Type 0
+ErrorsStandAtTokens =
+    (facts : List Fact) (level : Level) (tokens : List Token) (tree : Tree) → Derives tokens tree →
+    Each (λ (error : Diag). IsPlaceOfError tokens error.span) (reading_errors facts level (Program tree))
+
+-- a place that a node of the tree carries: each test that all of those pass is passed by it (`HasErrorPlaces` says which they are)
+abbrev pub IsPlaceOfNode : Tree → Span → Type 0
+IsPlaceOfNode tree span = (test : Span → Bool) → HasErrorPlaces (λ place. test place ≡ true) tree → test span ≡ true
+
+-- Each error of types in a program stands at such a place.
+abbrev pub TypeErrorsStandAtNodes : Type 0
+TypeErrorsStandAtNodes = (facts : List Fact) (level : Level) (tree : Tree) → Each (λ (error : Diag). IsPlaceOfNode tree error.span) (type_errors facts level tree)
