@@ -8,3 +8,4 @@ pub mod SameFacts
 pub mod ShownPlaces
 pub mod Loaded
 pub mod LoadedExamples
+pub mod PlacedExamples

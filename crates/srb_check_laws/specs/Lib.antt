@@ -1,4 +1,5 @@
 pub mod Loaded
 pub mod LoadedExamples
 pub mod Placed
+pub mod PlacedExamples
 pub mod Summaries

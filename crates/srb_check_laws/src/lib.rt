@@ -8,6 +8,7 @@ ghost use Rattle.srb_check.specs.Checks.{errors_of};
 ghost use Rattle.srb_check_laws.specs.Loaded.{LoadedIsKept};
 ghost use Rattle.srb_check_laws.specs.LoadedExamples.{BracketIsASyntaxError, ByteIsNoText, GlobalIsOutsideTheProfile, IgnoredHasNone, LastIsDeeper};
 ghost use Rattle.srb_check_laws.specs.Placed.{AreAtPlaces, ErrorsStandAtTokens, TypeErrorsStandAtNodes};
+ghost use Rattle.srb_check_laws.specs.PlacedExamples.{OperatorIsAPlace};
 ghost use Rattle.srb_check_laws.specs.Summaries.{SummariesGiveErrors, SummariesGiveFacts, SummariesGiveTables};
 
 /// What `load` keeps of a file is the one record that the file's bytes tell: its size is tested first, then whether it is UTF-8, then which
@@ -32,10 +33,12 @@ pub fn errors_are_at_places()
     ensures { (facts : List Fact) (bytes : List ℕ) → AreAtPlaces bytes (errors_of facts bytes) }
 {}
 
-/// Under any facts each error of a program stands at its tokens, and each error of types at a place that a node of its tree carries.
+/// Under any facts each error of a program stands at its tokens, and each error of types at a place that a node of its tree carries, as that of
+/// an operator is.
 pub fn errors_are_at_tokens()
     ensures tokens { ErrorsStandAtTokens }
     ensures nodes { TypeErrorsStandAtNodes }
+    ensures operator { OperatorIsAPlace }
 {}
 
 /// Projects whose files have equal summaries, one after the other, have equal facts. So a symbol table that stands for the facts of one stands
