@@ -3,10 +3,12 @@ use Rattle.std.proofs.Common.{◌≡◌, List, [], ◌∷◌, ◌++◌, Ok, Err,
 use Rattle.rb_tree.specs.declared.syntax.Tree.{Tree}
 use Rattle.rb_tree.specs.declared.token.Token.{Token}
 use Rattle.rb_expr.specs.Reading.{Outcome}
+use Rattle.rb_expr_laws.specs.Forms.{IsBarred}
 use Rattle.rb_prefix_laws.proofs.Steps.{rest_of}
 
 -- a reader of a form, which the relation tells, and what may follow the form
 pub record Facts (D : Tree → List Token → List Token → Type 0) (Follows : List Token → Type 0) (reads : List Token → Outcome Tree) : Type 0 where
+  pub lone : (before rest : List Token) (t : Tree) → D t before [] → reads (before ++ rest) ≡ Err rest → IsBarred rest
   pub sound : (tokens rest : List Token) (t : Tree) → reads tokens ≡ Ok (t, rest) → D t tokens rest
   pub complete : (tokens rest : List Token) (t : Tree) → D t tokens rest → Follows rest → reads tokens ≡ Ok (t, rest)
   pub nothing : Follows []

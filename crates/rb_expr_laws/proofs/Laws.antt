@@ -12,11 +12,11 @@ use Rattle.rb_expr.specs.declared.ParseEnd.{ParseEnd}
 use Rattle.rb_expr.specs.declared.ParseEnd.TheVariants.{Bad, TooDeep, NoMemory}
 use Rattle.rb_expr.specs.Reading.{Outcome}
 use Rattle.rb_expr.specs.Answers.{answered, answered_by, bad_at, cut, cut_by, ruled, start_at, whole, whole_by}
-use Rattle.rb_expr_laws.specs.Forms.{Form, BeginsForm, IsForm, MayFollow, Reaches}
-use Rattle.rb_expr_laws.specs.Laws.{AnswersSay, DeepFormsAreRefused, FormsAreRead, FormsEndThere, NoFormsAreRefused, Says, answer_of}
+use Rattle.rb_expr_laws.specs.Forms.{Form, BeginsForm, IsBarred, IsForm, MayFollow, Reaches}
+use Rattle.rb_expr_laws.specs.Laws.{AnswersSay, DeepFormsAreRefused, FormsAreRead, FormsEndThere, LoneFormsAreRead, NoFormsAreRefused, Says, answer_of}
 use Rattle.rb_expr_laws.proofs.Facts.{ended-begins, ended-further, refused-begins, refused-further}
 use Rattle.rb_expr_laws.proofs.Forms.{facts, reads, rule_of}
-use Rattle.rb_expr_laws.proofs.Reach.{no-more, one-reach, read-reaches, refused-reaches, same-rest}
+use Rattle.rb_expr_laws.proofs.Reach.{no-more, one-reach, read-reaches, refused-reaches, same-before, same-rest}
 
 -- ---- the first deep token
 
@@ -60,8 +60,14 @@ whole-says form tokens from weight here within light (Ok (t, rest)) e =
     (length h.0, place-after tokens h.0 rest from within h.1, read-reaches form xs h.0 rest t h.2 h.1 h.3 e, (facts form).sound xs rest t e, (h.2, h.3), λ turn d. absurd (light turn d))
 whole-says form tokens from weight here within light (Err rest) e =
     let xs = drop from tokens in
-    let h = (facts form).begun xs rest e in
-    (length h.0, refused-reaches form xs h.0 rest h.1 (h.2, h.3, h.4) e, refl, (λ t d follows. let read = (facts form).complete xs rest t d follows in absurd (cc)), λ turn d. absurd (light turn d))
+    let h = (facts form).begun xs rest e in (
+      length h.0,
+      refused-reaches form xs h.0 rest h.1 (h.2, h.3, h.4) e,
+      refl,
+      (λ t d follows. let read = (facts form).complete xs rest t d follows in absurd (cc)),
+      (λ t d. (facts form).lone h.0 rest t d (subst (λ us. reads form us ≡ Err rest) h.1 e)),
+      λ turn d. absurd (light turn d),
+    )
 
 -- ---- where one is
 
@@ -113,6 +119,7 @@ cut-says form tokens from weight here turn within deep (Err (bad ∷ after)) e =
       refused-reaches form xs b.0 (bad ∷ (after ++ more)) parts (b.2, b.3, b.4) e',
       refl,
       (λ t d follows. let read = (facts form).complete xs (bad ∷ (after ++ more)) t d follows in absurd (cc)),
+      (λ t d. (facts form).lone b.0 (bad ∷ (after ++ more)) t d (subst (λ us. reads form us ≡ Err (bad ∷ (after ++ more))) parts e')),
       λ k d. let first = first-is-first xs weight here turn k deep d in let m = numbers.0 in omega arith,
     )
 
@@ -194,7 +201,7 @@ forms-are-read form tokens from weight here n t within part light r d follows no
         let number : m ≡ n = one-reach form xs m n q r in
         let at : place ≡ from + n = omega arith in
         e ∙ ap (λ v. Ok (v, place)) (sym tree) ∙ ap (λ k. Ok (t, k)) at
-    by (Err (Bad at)) e (m, q, p, no', light') =
+    by (Err (Bad at)) e (m, q, p, no', lone, light') =
         let rest = sym (same-rest form xs m n q r) in
         absurd (no' t (subst (λ us. IsForm form t xs us) rest d) (subst (MayFollow form) rest follows))
     by (Err (TooDeep at)) e (turn, p, deep, b) = absurd (past-deep form xs weight here turn n deep b r (none turn deep))
@@ -212,7 +219,22 @@ forms-end-there form tokens from weight here n within part light r none = by (an
         let number : m ≡ n = one-reach form xs m n q r in
         let at : place ≡ from + n = omega arith in
         inl (u, e ∙ ap (λ k. Ok (u, k)) at)
-    by (Err (Bad at)) e (m, q, p, no', light') = inr (e ∙ ap (λ k. Err (Bad k)) (p ∙ ap (bad_at tokens) (same-rest form xs m n q r)))
+    by (Err (Bad at)) e (m, q, p, no', lone, light') = inr (e ∙ ap (λ k. Err (Bad k)) (p ∙ ap (bad_at tokens) (same-rest form xs m n q r)))
+    by (Err (TooDeep at)) e (turn, p, deep, b) = absurd (past-deep form xs weight here turn n deep b r (none turn deep))
+    by (Err NoMemory) e s = absurd (answer-tells form tokens from weight here e)
+
+pub lone-forms-are-read : LoneFormsAreRead
+lone-forms-are-read form tokens from weight here n t within part light r d free none = by (answer_of form tokens from weight here) refl (says form tokens from weight here within part light)
+  where
+    xs : List Token
+    xs = drop from tokens
+
+    by : (a : Result (Tree × ℕ) ParseEnd) → answer_of form tokens from weight here ≡ a → Says form tokens from weight here a → (u : Tree) × (answer_of form tokens from weight here ≡ Ok (u, from + n))
+    by (Ok (u, place)) e (m, p, q, du, alone, light') =
+        let number : m ≡ n = one-reach form xs m n q r in
+        let at : place ≡ from + n = omega arith in
+        (u, e ∙ ap (λ k. Ok (u, k)) at)
+    by (Err (Bad at)) e (m, q, p, no', lone, light') = absurd (free (subst IsBarred (same-rest form xs m n q r) (lone t (subst (λ us. IsForm form t us []) (sym (same-before form xs m n q r)) d))))
     by (Err (TooDeep at)) e (turn, p, deep, b) = absurd (past-deep form xs weight here turn n deep b r (none turn deep))
     by (Err NoMemory) e s = absurd (answer-tells form tokens from weight here e)
 
@@ -224,7 +246,7 @@ no-forms-are-refused form tokens from weight here n within part light r no' none
 
     by : (a : Result (Tree × ℕ) ParseEnd) → answer_of form tokens from weight here ≡ a → Says form tokens from weight here a → answer_of form tokens from weight here ≡ Err (Bad (bad_at tokens r.rest))
     by (Ok (u, place)) e (m, p, q, du, alone, light') = absurd (no' u (subst (λ us. IsForm form u xs us) (same-rest form xs m n q r) du))
-    by (Err (Bad at)) e (m, q, p, no2, light') = e ∙ ap (λ k. Err (Bad k)) (p ∙ ap (bad_at tokens) (same-rest form xs m n q r))
+    by (Err (Bad at)) e (m, q, p, no2, lone, light') = e ∙ ap (λ k. Err (Bad k)) (p ∙ ap (bad_at tokens) (same-rest form xs m n q r))
     by (Err (TooDeep at)) e (turn, p, deep, b) = absurd (past-deep form xs weight here turn n deep b r (none turn deep))
     by (Err NoMemory) e s = absurd (answer-tells form tokens from weight here e)
 
@@ -236,7 +258,7 @@ deep-forms-are-refused form tokens from weight here turn within part light deep 
 
     by : (a : Result (Tree × ℕ) ParseEnd) → answer_of form tokens from weight here ≡ a → Says form tokens from weight here a → answer_of form tokens from weight here ≡ Err (TooDeep (start_at tokens (from + turn)))
     by (Ok (u, place)) e (m, p, q, du, alone, none) = absurd (past-deep form xs weight here turn m deep b q (none turn deep))
-    by (Err (Bad at)) e (m, q, p, no', none) = absurd (past-deep form xs weight here turn m deep b q (none turn deep))
+    by (Err (Bad at)) e (m, q, p, no', lone, none) = absurd (past-deep form xs weight here turn m deep b q (none turn deep))
     by (Err (TooDeep at)) e (k, p, deep', b') =
         let a = first-is-first xs weight here turn k deep deep' in
         let c = first-is-first xs weight here k turn deep' deep in

@@ -56,3 +56,14 @@ BadIsToldFirst = tern_of (token (kind.Whole (codes "1")) 0 1 ∷ token kind.Plus
 -- `1 rescue`: a `rescue` directly after a statement is refused, though the statement alone is a body
 abbrev pub RescueIsRefused : Type 0
 RescueIsRefused = expr_of (token (kind.Whole (codes "1")) 0 1 ∷ token kind.Rescue 2 8 ∷ []) 0 0 0 false ≡ Err (Bad 2)
+
+-- `1 == 2 == 3`: no second comparison stands in a row, so the first is read
+abbrev pub ComparisonIsRead : Type 0
+ComparisonIsRead =
+    tern_of (token (kind.Whole (codes "1")) 0 1 ∷ token kind.Equal 2 4 ∷ token (kind.Whole (codes "2")) 5 6 ∷ token kind.Equal 7 9 ∷ token (kind.Whole (codes "3")) 10 11 ∷ []) 0 0 0
+    ≡ Ok (tree.Binary binary.Equal (from_to 2 4) (digit (codes "1") 0) (digit (codes "2") 5) (from_to 0 6), 3)
+
+-- `!-2 ** 3`: a `**` after a number with its sign is refused, though the tokens before it alone are a term
+abbrev pub PowerIsRefused : Type 0
+PowerIsRefused =
+    tern_of (token kind.Not 0 1 ∷ token kind.Minus 1 2 ∷ token (kind.Whole (codes "2")) 2 3 ∷ token kind.Power 4 6 ∷ token (kind.Whole (codes "3")) 7 8 ∷ []) 0 0 0 ≡ Err (Bad 4)

@@ -2,8 +2,10 @@
 use Rattle.std.specs.Prelude.{◌≡◌, ℕ, ◌≤◌, Bool, true, List, [], ◌∷◌, ◌++◌, length}
 use Rattle.rb_tree.specs.declared.syntax.Tree.{Tree}
 use Rattle.rb_tree.specs.declared.token.Token.{Token}
+use Rattle.rb_tree.specs.declared.token.Shape.TheVariants as shape
 use Rattle.rb_weight.specs.Weights.{DeepAt}
 use Rattle.rb_rules.specs.Grammar.{DerivesTerm}
+use Rattle.rb_rules.specs.Tokens.{StartsWith}
 use Rattle.rb_grammar_laws.specs.Ends.{Ends, BODY_ENDS, TERM_ENDS}
 use Rattle.rb_expr_laws.specs.Bodies.{PlainBody}
 
@@ -39,6 +41,10 @@ pub record Reaches (form : Form) (tokens : List Token) (n : ℕ) : Type 0 where
 abbrev pub MayFollow : Form → List Token → Type 0
 MayFollow (Form.Body constants) rest = Ends BODY_ENDS true rest
 MayFollow Form.Term rest = Ends TERM_ENDS true rest
+
+-- `**` is next, which may not follow a number with a `-`, or `rescue`, which may not follow a statement
+abbrev pub IsBarred : List Token → Type 0
+IsBarred rest = StartsWith (shape.Power ∷ shape.Rescue ∷ []) rest
 
 -- none of the first so many tokens is too deep, where the weight before them is this one
 abbrev pub NoneIsDeep : List Token → ℕ → ℕ → ℕ → Type 0

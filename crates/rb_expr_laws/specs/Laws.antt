@@ -7,7 +7,7 @@ use Rattle.rb_weight.specs.Weights.{DeepAt}
 use Rattle.rb_expr.specs.declared.ParseEnd.{ParseEnd}
 use Rattle.rb_expr.specs.declared.ParseEnd.TheVariants.{Bad, TooDeep, NoMemory}
 use Rattle.rb_expr.specs.Answers.{Answers, bad_at, expr_of, start_at, tern_of}
-use Rattle.rb_expr_laws.specs.Forms.{Form, BeginsForm, IsForm, MayFollow, NoneIsDeep, Reaches}
+use Rattle.rb_expr_laws.specs.Forms.{Form, BeginsForm, IsBarred, IsForm, MayFollow, NoneIsDeep, Reaches}
 
 -- what is answered of the form that begins at a token
 abbrev pub answer_of : Form → List Token → ℕ → ℕ → ℕ → Result (Tree × ℕ) ParseEnd
@@ -31,14 +31,15 @@ NoneIsLonger = (form : Form) (tokens xs ys : List Token) (n : ℕ) (t : Tree) �
 -- ---- what is answered
 
 -- What an answer says of the tokens from this one on. A tree is that of the longest form there is, where it stands, and its tokens are
--- such a form by themselves too. Want of memory says nothing.
+-- such a form by themselves too. Where the tokens before a bad one are such a form by themselves, `**` or `rescue` is next. Want of memory
+-- says nothing.
 abbrev pub Says : Form → List Token → ℕ → ℕ → ℕ → Result (Tree × ℕ) ParseEnd → Type 0
 Says form tokens from weight here (Ok (t, place)) =
     (n : ℕ) × (place ≡ from + n) × (r : Reaches form (drop from tokens) n) × IsForm form t (drop from tokens) r.rest × ((u : Tree) × IsForm form u r.before [])
     × NoneIsDeep (drop from tokens) weight here n
 Says form tokens from weight here (Err (Bad at)) =
     (n : ℕ) × (r : Reaches form (drop from tokens) n) × (at ≡ bad_at tokens r.rest) × ((t : Tree) → IsForm form t (drop from tokens) r.rest → ¬ MayFollow form r.rest)
-    × NoneIsDeep (drop from tokens) weight here n
+    × ((t : Tree) → IsForm form t r.before [] → IsBarred r.rest) × NoneIsDeep (drop from tokens) weight here n
 Says form tokens from weight here (Err (TooDeep at)) =
     (turn : ℕ) × (at ≡ start_at tokens (from + turn)) × DeepAt (drop from tokens) weight here turn × BeginsForm form (take (turn + 1) (drop from tokens))
 Says form tokens from weight here (Err NoMemory) = Unit {0}
@@ -60,6 +61,13 @@ abbrev pub FormsAreRead : Type 0
 FormsAreRead =
     (form : Form) (tokens : List Token) (from weight here n : ℕ) (t : Tree) → from ≤ length tokens → here ≤ weight → weight ≤ MOST → (r : Reaches form (drop from tokens) n) →
     IsForm form t (drop from tokens) r.rest → MayFollow form r.rest → NoneIsDeep (drop from tokens) weight here n → answer_of form tokens from weight here ≡ Ok (t, from + n)
+
+-- Whatever is next, but for `**` and `rescue`: a form is answered, if the tokens over which the longest form reaches are one by themselves
+-- and no token of it is too deep.
+abbrev pub LoneFormsAreRead : Type 0
+LoneFormsAreRead =
+    (form : Form) (tokens : List Token) (from weight here n : ℕ) (t : Tree) → from ≤ length tokens → here ≤ weight → weight ≤ MOST → (r : Reaches form (drop from tokens) n) →
+    IsForm form t r.before [] → ¬ IsBarred r.rest → NoneIsDeep (drop from tokens) weight here n → (u : Tree) × (answer_of form tokens from weight here ≡ Ok (u, from + n))
 
 -- It is refused where it goes no further, if it is none there and no token of it is too deep.
 abbrev pub NoFormsAreRefused : Type 0

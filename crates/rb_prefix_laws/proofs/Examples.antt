@@ -1,22 +1,15 @@
 -- Where the depth is not enough.
-use Rattle.std.proofs.Common.{◌≡◌, [], ◌∷◌, codes, Err, refl}
+use Rattle.std.proofs.Common.{refl}
 use Rattle.rb_tree.specs.Tokens.{shape_of, same_shape}
-use Rattle.rb_tree.specs.declared.syntax.Tree as trees
-use denote.Hole.Carrier as carrier
-use Rattle.rb_tree.specs.declared.token.TokenKind.TheVariants as kind
 use Rattle.rb_expr.specs.Shapes as shapes
-use Rattle.rb_expr.specs.Branches as branches
-use Rattle.rb_expr.specs.Calls as calls
 use Rattle.rb_expr.specs.Operands as operands
 use Rattle.rb_expr.specs.Operators as operators
 use Rattle.rb_expr.specs.Statements as st
 use Rattle.rb_expr.specs.Grammar as grammar
 use Rattle.rb_expr.specs.Rules as rules
-use Rattle.rb_decl.specs.Parameters as parameters
 use Rattle.rb_decl.specs.Methods as methods
 use Rattle.rb_decl.specs.Items as items
 use Rattle.rb_decl.specs.Programs.{program}
-use Rattle.rb_grammar.specs.Examples.{token}
 use Rattle.rb_prefix_laws.specs.Examples.{ShallowLooksFurther}
 
 pub shallow-looks-further : ShallowLooksFurther

@@ -96,7 +96,7 @@ module _ (turns more : ℕ) where
 
   other-alike : (k : ℕ) → Fits turns more k → (xs : List Token) → Alike k (answer (grip xs)) xs (statement turns true xs) (statement more true)
   unfolding statement
-  other-alike k fit xs = statement-alike (parsed turns) (parsed more) turns more (nests turns more) true k fit true xs
+  other-alike k fit xs = (statement-alike (parsed turns) (parsed more) turns more (nests turns more) true k fit true xs).alike
 
 lessened : (k d : ℕ) → k ≤ suc d → k - 1 ≤ d
 lessened k d h = omega arith

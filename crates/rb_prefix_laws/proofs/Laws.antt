@@ -1,20 +1,21 @@
 -- The laws.
-use Rattle.std.proofs.Common.{◌≡◌, ℕ, suc, ◌+◌, ◌-◌, ◌≤◌, ◌<◌, Bool, List, [], ◌∷◌, ◌++◌, length, Ok, Err, refl, sym, ap, subst, ◌∙◌, append_assoc, arith}
+use Rattle.std.proofs.Common.{◌≡◌, ℕ, suc, ◌+◌, ◌-◌, ◌≤◌, ◌<◌, Bool, List, ◌∷◌, ◌++◌, length, Ok, Err, refl, sym, ap, subst, ◌∙◌, arith}
 use Rattle.rb_tree.specs.declared.syntax.Tree.{Tree}
 use Rattle.rb_tree.specs.declared.token.Token.{Token}
 use Rattle.rb_expr.specs.Grammar.{parsed}
 use Rattle.rb_expr.specs.Reading.{Outcome}
 use Rattle.rb_expr.specs.declared.form.Form.{Form}
-use Rattle.rb_prefix_laws.specs.Laws.{FormsAreRefusedAlike, FormsEndAlike, FormsNeedNoMoreDepth, RefusalsLookNoFurther, ProgramsNeedNoMoreDepth, RefusalsAreEnds}
+use Rattle.rb_prefix_laws.specs.Laws.{FormsAreRefusedAlike, FormsAreRefusedSooner, FormsEndAlike, FormsNeedNoMoreDepth, RefusalsLookNoFurther, ProgramsNeedNoMoreDepth, RefusalsAreEnds}
 use Rattle.rb_prefix_laws.proofs.Steps.{Alike, rest_of, instead, fits-turns}
 use Rattle.rb_prefix_laws.proofs.Steps.Amount.{any}
+use Rattle.rb_prefix_laws.proofs.Cuts.{Cut}
 use Rattle.rb_prefix_laws.proofs.Forms.{nests}
 use Rattle.rb_prefix_laws.proofs.Programs.{again-same, again-other, same-program, refused-alike, refusal-ends}
 
 -- ---- forms
 
 form-read : (k d e : ℕ) → k ≤ d → k ≤ e → (f : Form) (free : Bool) (xs : List Token) → Alike (k - 1) (any 0) xs (parsed d f free xs) (parsed e f free)
-form-read k d e a b f free xs = (nests d e k (fits-turns a b)).reads f free xs
+form-read k d e a b f free xs = ((nests d e k (fits-turns a b)).reads f free xs).alike
 
 pub forms-need-no-more-depth : FormsNeedNoMoreDepth
 forms-need-no-more-depth depth other f free tokens a b =
@@ -40,6 +41,13 @@ forms-are-refused-alike depth other f free before bad after others a b e = form-
 
 pub forms-end-alike : FormsEndAlike
 forms-end-alike depth other f free t before next after others a b e = form-at depth other f free before next after others a b (Ok (t, next ∷ after)) e refl
+
+pub forms-are-refused-sooner : FormsAreRefusedSooner
+forms-are-refused-sooner depth f free before bad after small u e =
+    let xs = before ++ bad ∷ after in
+    let read = (nests depth depth depth (fits-turns (omega arith) (omega arith))).reads f free xs in
+    let h : Cut (depth - 1) (any 0) xs (Err (bad ∷ after)) (parsed depth f free) = subst (λ o. Cut (depth - 1) (any 0) xs o (parsed depth f free)) e read in
+    h.cut before (omega arith) refl u
 
 -- ---- programs
 

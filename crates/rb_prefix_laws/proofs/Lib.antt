@@ -1,4 +1,5 @@
 pub mod Steps
+pub mod Cuts
 pub mod Nested
 pub mod Lists
 pub mod Calls

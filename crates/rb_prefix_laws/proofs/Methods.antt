@@ -85,7 +85,7 @@ module _ (turns more : ℕ) where
 
   rest-alike : (k : ℕ) → Fits turns more k → (xs : List Token) → Alike (k - 1) (any 0) xs (guarded turns xs) (guarded more)
   unfolding guarded
-  rest-alike k fit xs = guarded-alike (parsed turns) (parsed more) turns more (nests turns more) true k fit xs
+  rest-alike k fit xs = (guarded-alike (parsed turns) (parsed more) turns more (nests turns more) true k fit xs).alike
 
   defined-alike : (k : ℕ) → Fits turns more k → (v : Option Visibility) (start : ℕ) (xs : List Token) → Alike k (answer 0) xs (defined turns v start xs) (defined more v start)
   unfolding defined

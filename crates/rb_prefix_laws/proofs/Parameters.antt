@@ -61,7 +61,7 @@ comma-after k false p q xs e h = stepping xs p q shape.Comma e (h (after xs))
 module _ (turns more : ℕ) where
   default-alike : (k : ℕ) → Fits turns more k → (xs : List Token) → Alike k (any 0) xs (tern turns xs) (tern more)
   unfolding tern
-  default-alike k fit xs = weaker (tern-alike (parsed turns) (parsed more) turns more (nests turns more) true k fit xs)
+  default-alike k fit xs = weaker (tern-alike (parsed turns) (parsed more) turns more (nests turns more) true k fit xs).alike
 
   plain-alike : (k : ℕ) → Fits turns more k → (stage : Stage) (words : List ℕ) (span : Span) (xs : List Token) → Alike k (any 0) xs (plain turns stage words span xs) (plain more stage words span)
   unfolding plain

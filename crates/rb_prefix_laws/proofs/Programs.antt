@@ -1,24 +1,14 @@
 -- What is read alike is answered and refused alike.
-use Rattle.std.proofs.Common.{◌≡◌, ℕ, suc, ◌+◌, ◌≤◌, ◌<◌, true, List, [], ◌∷◌, ◌++◌, length, Result, Ok, Err, refl, sym, ap, subst, ◌∙◌, length-append, arith}
+use Rattle.std.proofs.Common.{◌≡◌, ℕ, suc, ◌≤◌, ◌<◌, true, List, [], ◌∷◌, ◌++◌, length, Result, Ok, Err, refl, sym, ap, subst, ◌∙◌, arith}
 use Rattle.rb_tree.specs.declared.syntax.Tree.{Tree}
 use Rattle.rb_tree.specs.declared.token.Token.{Token}
 use Rattle.rb_expr.specs.Reading.{Outcome, Parser}
 use Rattle.rb_decl.specs.Items.{item, statements, body_of}
 use Rattle.rb_decl.specs.Programs.{program}
-use Rattle.rb_prefix_laws.proofs.Steps.{Alike, first, rest_of, instead, fits-turns}
+use Rattle.rb_prefix_laws.proofs.Steps.{Alike, first, rest_of, instead, same-front, fits-turns}
 use Rattle.rb_prefix_laws.proofs.Steps.{Amount}
 use Rattle.rb_prefix_laws.proofs.Steps.Amount.{any}
 use Rattle.rb_prefix_laws.proofs.Items.{item-alike, statements-alike}
-
--- what stands before the same end is the same
-same-front : (c d r : List Token) → c ++ r ≡ d ++ r → c ≡ d
-same-front [] [] r e = refl
-same-front [] (y ∷ d) r e = let l : length r ≡ length ((y ∷ d) ++ r) = ap length e in let m : length ((y ∷ d) ++ r) ≡ length (y ∷ d) + length r = length-append (y ∷ d) r in absurd (let f : ⊥ = omega arith in f)
-same-front (x ∷ c) [] r e = let l : length ((x ∷ c) ++ r) ≡ length r = ap length e in let m : length ((x ∷ c) ++ r) ≡ length (x ∷ c) + length r = length-append (x ∷ c) r in absurd (let f : ⊥ = omega arith in f)
-same-front (x ∷ c) (y ∷ d) r e =
-    let h : x ≡ y = cc in
-    let t : c ++ r ≡ d ++ r = cc in
-    ap (λ z. z ∷ c) h ∙ ap (λ zs. y ∷ zs) (same-front c d r t)
 
 -- the same is read again of the same tokens
 pub again-same : {A : Type 0} {K : Amount} (k : ℕ) (xs : List Token) (o : Outcome A) (q : Parser A) → Alike k K xs o q → length xs < k → q xs ≡ o

@@ -89,12 +89,22 @@ same-first (suc n) [] (y ∷ ys) h = absurd h
 same-first (suc n) (x ∷ xs) [] h = absurd h
 same-first (suc n) (x ∷ xs) (y ∷ ys) h = ap Some h.0
 
+-- what stands before the same end is the same
+pub same-front : (c d r : List Token) → c ++ r ≡ d ++ r → c ≡ d
+same-front [] [] r e = refl
+same-front [] (y ∷ d) r e = let l : length r ≡ length ((y ∷ d) ++ r) = ap length e in let m : length ((y ∷ d) ++ r) ≡ length (y ∷ d) + length r = length-append (y ∷ d) r in absurd (let f : ⊥ = omega arith in f)
+same-front (x ∷ c) [] r e = let l : length ((x ∷ c) ++ r) ≡ length r = ap length e in let m : length ((x ∷ c) ++ r) ≡ length (x ∷ c) + length r = length-append (x ∷ c) r in absurd (let f : ⊥ = omega arith in f)
+same-front (x ∷ c) (y ∷ d) r e =
+    let h : x ≡ y = cc in
+    let t : c ++ r ≡ d ++ r = cc in
+    ap (λ z. z ∷ c) h ∙ ap (λ zs. y ∷ zs) (same-front c d r t)
+
 -- ---- bounds
 
 less : (k : ℕ) (c r : List Token) → length (c ++ r) < k → length r < k
 less k c r h = let e : length (c ++ r) ≡ length c + length r = length-append c r in omega arith
 
-fits : {A : Type 0} (K : Amount) (p : A × List Token) (k : ℕ) (c r : List Token) → Consumed K (Ok p) c → length (c ++ r) < k → length r < down K k
+pub fits : {A : Type 0} (K : Amount) (p : A × List Token) (k : ℕ) (c r : List Token) → Consumed K (Ok p) c → length (c ++ r) < k → length r < down K k
 fits (answer n) p k c r t h = let e : length (c ++ r) ≡ length c + length r = length-append c r in let m : 1 ≤ length c = t.0 in omega arith
 fits (any zero) p k c r t h = less k c r h
 fits (any (suc n)) p k c r t h = let e : length (c ++ r) ≡ length c + length r = length-append c r in let m : suc n ≤ length c = t in omega arith
@@ -146,7 +156,7 @@ bind-all {A = A} {B = B} {k = k} {K = K} {L = L} {xs = xs} {o = o} {q = q} {f = 
 pub bind : {A B : Type 0} {k : ℕ} {K L : Amount} {xs : List Token} {o : Outcome A} {q : Parser A} {f : A → Parser B} {g : A → Parser B} → Alike k K xs o q → ((a : A) (r : List Token) → Alike (down K k) L r (f a r) (g a)) → Alike k K xs (and_then o f) (λ ys. and_then (q ys) g)
 bind {g = g} h more = bind-all (λ _. g) h (λ a r c e. more a r)
 
-down-less : (K : Amount) (k : ℕ) → down K k ≤ k
+pub down-less : (K : Amount) (k : ℕ) → down K k ≤ k
 down-less (answer n) k = omega arith
 down-less (any zero) k = omega arith
 down-less (any (suc n)) k = omega arith
@@ -329,37 +339,41 @@ by-shape : {A : Type 0} (t : Token) (ts : List Token) (a : A) (b : Bool) → (if
 by-shape t ts a true = refl
 by-shape t ts a false = refl
 
-pub expecting : {k : ℕ} (s : Shape) (xs : List Token) → Alike k (answer 0) xs (expect s xs) (expect s)
-expecting s xs = likewise xs (by_token (λ t. if same_shape (shape_of t.kind) s then Some t.span else None)) (expect s) same' (token xs (λ t. if same_shape (shape_of t.kind) s then Some t.span else None))
-  where
-    same' : (ys : List Token) → expect s ys ≡ by_token (λ t. if same_shape (shape_of t.kind) s then Some t.span else None) ys
-    same' [] = refl
-    same' (t ∷ ts) = by-shape t ts t.span (same_shape (shape_of t.kind) s)
+-- a token of a shape, by what is made of it
+abbrev pub of_shape : {A : Type 0} → (Token → A) → Shape → Token → Option A
+of_shape f s t = if same_shape (shape_of t.kind) s then Some (f t) else None
 
-as_name : Token → PlacedName
+pub as_name : Token → PlacedName
 as_name t = record { name = words_of t.kind; span = t.span }
 
-pub naming : {k : ℕ} (s : Shape) (xs : List Token) → Alike k (answer 0) xs (named s xs) (named s)
+pub expect-told : (s : Shape) (ys : List Token) → expect s ys ≡ by_token (of_shape (λ t. t.span) s) ys
+expect-told s [] = refl
+expect-told s (t ∷ ts) = by-shape t ts t.span (same_shape (shape_of t.kind) s)
+
+pub named-told : (s : Shape) (ys : List Token) → named s ys ≡ by_token (of_shape as_name s) ys
 unfolding as_name
-naming s xs = likewise xs (by_token (λ t. if same_shape (shape_of t.kind) s then Some (as_name t) else None)) (named s) same' (token xs (λ t. if same_shape (shape_of t.kind) s then Some (as_name t) else None))
-  where
-    same' : (ys : List Token) → named s ys ≡ by_token (λ t. if same_shape (shape_of t.kind) s then Some (as_name t) else None) ys
-    same' [] = refl
-    same' (t ∷ ts) = by-shape t ts (as_name t) (same_shape (shape_of t.kind) s)
+named-told s [] = refl
+named-told s (t ∷ ts) = by-shape t ts (as_name t) (same_shape (shape_of t.kind) s)
+
+pub worded-told : (s : Shape) (ys : List Token) → worded s ys ≡ by_token (of_shape (λ t. (words_of t.kind, t.span)) s) ys
+worded-told s [] = refl
+worded-told s (t ∷ ts) = by-shape t ts (words_of t.kind, t.span) (same_shape (shape_of t.kind) s)
+
+pub take-told : (ys : List Token) → take_token ys ≡ by_token (λ t. Some t.span) ys
+take-told [] = refl
+take-told (t ∷ ts) = refl
+
+pub expecting : {k : ℕ} (s : Shape) (xs : List Token) → Alike k (answer 0) xs (expect s xs) (expect s)
+expecting s xs = likewise xs (by_token (of_shape (λ t. t.span) s)) (expect s) (expect-told s) (token xs (of_shape (λ t. t.span) s))
+
+pub naming : {k : ℕ} (s : Shape) (xs : List Token) → Alike k (answer 0) xs (named s xs) (named s)
+naming s xs = likewise xs (by_token (of_shape as_name s)) (named s) (named-told s) (token xs (of_shape as_name s))
 
 pub wording : {k : ℕ} (s : Shape) (xs : List Token) → Alike k (answer 0) xs (worded s xs) (worded s)
-wording s xs = likewise xs (by_token (λ t. if same_shape (shape_of t.kind) s then Some (words_of t.kind, t.span) else None)) (worded s) same' (token xs (λ t. if same_shape (shape_of t.kind) s then Some (words_of t.kind, t.span) else None))
-  where
-    same' : (ys : List Token) → worded s ys ≡ by_token (λ t. if same_shape (shape_of t.kind) s then Some (words_of t.kind, t.span) else None) ys
-    same' [] = refl
-    same' (t ∷ ts) = by-shape t ts (words_of t.kind, t.span) (same_shape (shape_of t.kind) s)
+wording s xs = likewise xs (by_token (of_shape (λ t. (words_of t.kind, t.span)) s)) (worded s) (worded-told s) (token xs (of_shape (λ t. (words_of t.kind, t.span)) s))
 
 pub taking : {k : ℕ} (xs : List Token) → Alike k (answer 0) xs (take_token xs) take_token
-taking xs = likewise xs (by_token (λ t. Some t.span)) take_token same' (token xs (λ t. Some t.span))
-  where
-    same' : (ys : List Token) → take_token ys ≡ by_token (λ t. Some t.span) ys
-    same' [] = refl
-    same' (t ∷ ts) = refl
+taking xs = likewise xs (by_token (λ t. Some t.span)) take_token take-told (token xs (λ t. Some t.span))
 
 -- a token that is next
 pub take-next : {k : ℕ} (t : Token) (ts : List Token) → Alike k (any 1) (t ∷ ts) (take_token (t ∷ ts)) take_token

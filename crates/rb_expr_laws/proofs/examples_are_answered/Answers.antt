@@ -21,3 +21,9 @@ returns-clause-bad c = refused.2
 
 pub returns-clause-guarded : goal.returns-clause-guarded
 returns-clause-guarded c = refused.3
+
+pub returns-clause-comparison : goal.returns-clause-comparison
+returns-clause-comparison c = read.3
+
+pub returns-clause-power : goal.returns-clause-power
+returns-clause-power c = refused.4
