@@ -47,5 +47,5 @@ abbrev pub IsBarred : List Token → Type 0
 IsBarred rest = StartsWith (shape.Power ∷ shape.Rescue ∷ []) rest
 
 -- none of the first so many tokens is too deep, where the weight before them is this one
-abbrev pub NoneIsDeep : List Token → ℕ → ℕ → ℕ → Type 0
-NoneIsDeep tokens weight here n = (turn : ℕ) → DeepAt tokens weight here turn → n ≤ turn
+abbrev pub NoneDeepAmong : List Token → ℕ → ℕ → ℕ → Type 0
+NoneDeepAmong tokens weight here n = (turn : ℕ) → DeepAt tokens weight here turn → n ≤ turn

@@ -7,7 +7,7 @@ use Rattle.rb_weight.specs.Weights.{DeepAt}
 use Rattle.rb_expr.specs.declared.ParseEnd.{ParseEnd}
 use Rattle.rb_expr.specs.declared.ParseEnd.TheVariants.{Bad, TooDeep, NoMemory}
 use Rattle.rb_expr.specs.Answers.{Answers, bad_at, expr_of, start_at, tern_of}
-use Rattle.rb_expr_laws.specs.Forms.{Form, BeginsForm, IsBarred, IsForm, MayFollow, NoneIsDeep, Reaches}
+use Rattle.rb_expr_laws.specs.Forms.{Form, BeginsForm, IsBarred, IsForm, MayFollow, NoneDeepAmong, Reaches}
 
 -- what is answered of the form that begins at a token
 abbrev pub answer_of : Form → List Token → ℕ → ℕ → ℕ → Result (Tree × ℕ) ParseEnd
@@ -36,10 +36,10 @@ NoneIsLonger = (form : Form) (tokens xs ys : List Token) (n : ℕ) (t : Tree) �
 abbrev pub Says : Form → List Token → ℕ → ℕ → ℕ → Result (Tree × ℕ) ParseEnd → Type 0
 Says form tokens from weight here (Ok (t, place)) =
     (n : ℕ) × (place ≡ from + n) × (r : Reaches form (drop from tokens) n) × IsForm form t (drop from tokens) r.rest × ((u : Tree) × IsForm form u r.before [])
-    × NoneIsDeep (drop from tokens) weight here n
+    × NoneDeepAmong (drop from tokens) weight here n
 Says form tokens from weight here (Err (Bad at)) =
     (n : ℕ) × (r : Reaches form (drop from tokens) n) × (at ≡ bad_at tokens r.rest) × ((t : Tree) → IsForm form t (drop from tokens) r.rest → ¬ MayFollow form r.rest)
-    × ((t : Tree) → IsForm form t r.before [] → IsBarred r.rest) × NoneIsDeep (drop from tokens) weight here n
+    × ((t : Tree) → IsForm form t r.before [] → IsBarred r.rest) × NoneDeepAmong (drop from tokens) weight here n
 Says form tokens from weight here (Err (TooDeep at)) =
     (turn : ℕ) × (at ≡ start_at tokens (from + turn)) × DeepAt (drop from tokens) weight here turn × BeginsForm form (take (turn + 1) (drop from tokens))
 Says form tokens from weight here (Err NoMemory) = Unit {0}
@@ -54,26 +54,26 @@ AnswersSay =
 abbrev pub FormsEndThere : Type 0
 FormsEndThere =
     (form : Form) (tokens : List Token) (from weight here n : ℕ) → from ≤ length tokens → here ≤ weight → weight ≤ MOST → (r : Reaches form (drop from tokens) n) →
-    NoneIsDeep (drop from tokens) weight here n → ((t : Tree) × (answer_of form tokens from weight here ≡ Ok (t, from + n))) ⊎ (answer_of form tokens from weight here ≡ Err (Bad (bad_at tokens r.rest)))
+    NoneDeepAmong (drop from tokens) weight here n → ((t : Tree) × (answer_of form tokens from weight here ≡ Ok (t, from + n))) ⊎ (answer_of form tokens from weight here ≡ Err (Bad (bad_at tokens r.rest)))
 
 -- The longest form is answered, if it is one, no token of it is too deep, and what is next may follow one.
 abbrev pub FormsAreRead : Type 0
 FormsAreRead =
     (form : Form) (tokens : List Token) (from weight here n : ℕ) (t : Tree) → from ≤ length tokens → here ≤ weight → weight ≤ MOST → (r : Reaches form (drop from tokens) n) →
-    IsForm form t (drop from tokens) r.rest → MayFollow form r.rest → NoneIsDeep (drop from tokens) weight here n → answer_of form tokens from weight here ≡ Ok (t, from + n)
+    IsForm form t (drop from tokens) r.rest → MayFollow form r.rest → NoneDeepAmong (drop from tokens) weight here n → answer_of form tokens from weight here ≡ Ok (t, from + n)
 
 -- Whatever is next, but for `**` and `rescue`: a form is answered, if the tokens over which the longest form reaches are one by themselves
 -- and no token of it is too deep.
 abbrev pub LoneFormsAreRead : Type 0
 LoneFormsAreRead =
     (form : Form) (tokens : List Token) (from weight here n : ℕ) (t : Tree) → from ≤ length tokens → here ≤ weight → weight ≤ MOST → (r : Reaches form (drop from tokens) n) →
-    IsForm form t r.before [] → ¬ IsBarred r.rest → NoneIsDeep (drop from tokens) weight here n → (u : Tree) × (answer_of form tokens from weight here ≡ Ok (u, from + n))
+    IsForm form t r.before [] → ¬ IsBarred r.rest → NoneDeepAmong (drop from tokens) weight here n → (u : Tree) × (answer_of form tokens from weight here ≡ Ok (u, from + n))
 
 -- It is refused where it goes no further, if it is none there and no token of it is too deep.
 abbrev pub NoFormsAreRefused : Type 0
 NoFormsAreRefused =
     (form : Form) (tokens : List Token) (from weight here n : ℕ) → from ≤ length tokens → here ≤ weight → weight ≤ MOST → (r : Reaches form (drop from tokens) n) →
-    ((t : Tree) → ¬ IsForm form t (drop from tokens) r.rest) → NoneIsDeep (drop from tokens) weight here n → answer_of form tokens from weight here ≡ Err (Bad (bad_at tokens r.rest))
+    ((t : Tree) → ¬ IsForm form t (drop from tokens) r.rest) → NoneDeepAmong (drop from tokens) weight here n → answer_of form tokens from weight here ≡ Err (Bad (bad_at tokens r.rest))
 
 -- It is refused at the first token that is too deep, if a form begins with the tokens up to and with that.
 abbrev pub DeepFormsAreRefused : Type 0

@@ -19,9 +19,11 @@ use Rattle.rb_rules.specs.Lexes.{Lexes}
 use Rattle.rb_rules.specs.Tokens.{IsOneOf}
 use Rattle.rb_weight.specs.Weights.{DeepAt}
 use Rattle.rb_weight_laws.proofs.Laws.{fronts-are-deep-by-roles, programs-are-deep-by-roles}
-use Rattle.rb_text_laws.specs.Texts.{IsCharacterOrEnd, IsToken, IsProgram, IsNoRuby, IsOutside, IsTooDeep, IsShallow, Verdict, Is, end_of_text}
+use Rattle.rb_text_laws.specs.Texts.{IsCharacterOrEnd, IsToken, IsProgram, IsNoRuby, IsOutside, IsTooDeep, Verdict, Is, end_of_text}
 use Rattle.rb_text_laws.proofs.Characters.{one-character}
-use Rattle.rb_text_laws.proofs.Depths.{after-shallow, front-deep, deep-is-no-piece}
+use Rattle.rb_text_laws.proofs.Depths.{after-light, deep-is-no-piece}
+use Rattle.rb_verdict_laws.specs.Verdicts.{NoneIsDeep}
+use Rattle.rb_verdict_laws.proofs.Depths.{deep-further}
 use Rattle.rb_text_laws.proofs.Shown.{tokens-seen, token-some}
 use Rattle.rb_text_laws.proofs.TokenPlaces.{one-token, none-at-end}
 
@@ -59,11 +61,11 @@ program text tree p =
     ((parsed-exactly p.tokens tree).1 (p.derives, λ turn deep. p.shallow turn ((programs-are-deep-by-roles p.tokens tree p.derives turn).0 deep)))
     refl
 
-bad-token : (text : List ℕ) (tokens : List Token) (at : ℕ) (span : Span) → Lexes text tokens → (bad : BadAt tokens at) → IsShallow bad.before bad.begins → IsToken tokens at span
+bad-token : (text : List ℕ) (tokens : List Token) (at : ℕ) (span : Span) → Lexes text tokens → (bad : BadAt tokens at) → NoneIsDeep bad.before bad.begins → IsToken tokens at span
     → OfLexed text (lexed_text text) (Verdict.NoRuby span)
 bad-token text tokens at span l bad shallow shown =
     let first = λ (turn : ℕ) (d : DeepAt tokens 0 0 turn).
-    after-shallow bad.before (bad.bad ∷ bad.after) bad.begins shallow turn (subst (λ (ts : List Token). DeepAt ts 0 0 turn) bad.whole d) in
+    after-light bad.before (bad.bad ∷ bad.after) bad.begins shallow turn (subst (λ (ts : List Token). DeepAt ts 0 0 turn) bad.whole d) in
     of-tokens text tokens (Err (parse.Bad at)) (Verdict.NoRuby span) l (some-are-refused-before tokens at bad first) (span, refl, inl shown)
 
 no-ruby : (text : List ℕ) (span : Span) → IsNoRuby text span → OfLexed text (lexed_text text) (Verdict.NoRuby span)
@@ -104,7 +106,7 @@ too-deep text _ (IsTooDeep.AtDeepToken tokens before deep after l whole begins b
     let within : length before < length (before ++ deep ∷ []) = omega (arith, length-append before (deep ∷ [])) in
     let short : DeepAt (before ++ deep ∷ []) 0 0 (length before) = (fronts-are-deep-by-roles (before ++ deep ∷ []) begins (length before) within).1 by_roles in
     let long : DeepAt (before ++ deep ∷ after) 0 0 (length before) =
-    subst (λ (ts : List Token). DeepAt ts 0 0 (length before)) (append_assoc before (deep ∷ []) after) (front-deep (before ++ deep ∷ []) after (length before) within short) in
+    subst (λ (ts : List Token). DeepAt ts 0 0 (length before)) (append_assoc before (deep ∷ []) after) (deep-further (before ++ deep ∷ []) after (length before) short) in
     let few : Begins (take (length before + 1) (before ++ deep ∷ after)) = subst Begins (sym (front-with before deep after)) begins in
     let refused = deep-tokens-are-refused (before ++ deep ∷ after) (length before) long few in
     let place : parsed (before ++ deep ∷ after) ≡ Err (parse.TooDeep deep.span.start) = refused ∙ ap (λ (t : Option Token). Err (parse.TooDeep (token_start t))) (got before deep after) in

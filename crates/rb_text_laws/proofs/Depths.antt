@@ -1,4 +1,4 @@
--- Depth by the roles of the grammar, and by the pass over tokens.
+-- Where the first deep token stands, and that it is no piece of a string.
 use Rattle.std.proofs.Common.{◌≡◌, ℕ, zero, suc, ◌+◌, ◌<◌, ◌≤◌, ◌⊎◌, List, [], ◌∷◌, ◌++◌, length, take, inl, inr, refl, sym, ap, subst, ◌∙◌, length-append, arith}
 use Rattle.std.proofs.lemmas.List.{take-append-le}
 use Rattle.std.proofs.Math.Seq.{take-append_seam}
@@ -13,47 +13,16 @@ use Rattle.rb_weight.specs.Sorts.{sort_of}
 use Rattle.rb_weight.specs.Effects.{effect_of}
 use Rattle.rb_weight.specs.Weights.{Open, Nest, DeepAt, begun, next, nest_after, turned, weight_of, weight_after, within}
 use Rattle.rb_weight.specs.declared.effect.Effect.TheVariants as effect
-use Rattle.rb_weight_laws.proofs.Laws.{fronts-are-deep-by-roles}
-use Rattle.rb_text_laws.specs.Texts.{IsShallow}
+use Rattle.rb_verdict_laws.specs.Verdicts.{NoneIsDeep}
+use Rattle.rb_verdict_laws.proofs.Depths.{order, deep-nearer, light-by-pass}
 
--- ---- fronts
-
--- what is deep in a front is deep in the whole
-pub front-deep : (xs ys : List Token) (turn : ℕ) → turn < length xs → DeepAt xs 0 0 turn → DeepAt (xs ++ ys) 0 0 turn
-front-deep xs ys turn here d = record {
-  within = omega (arith, length-append xs ys);
-  deep = subst (λ (ts : List Token). MOST < weight_after 0 0 ts) (sym (take-append-le (turn + 1) xs ys (omega arith))) d.deep;
-  first = λ k le. subst (λ (ts : List Token). weight_after 0 0 ts ≤ MOST) (sym (take-append-le k xs ys (omega arith))) (d.first k le);
-}
-
--- and the other way round
-pub deep-front : (xs ys : List Token) (turn : ℕ) → turn < length xs → DeepAt (xs ++ ys) 0 0 turn → DeepAt xs 0 0 turn
-deep-front xs ys turn here d = record {
-  within = here;
-  deep = subst (λ (ts : List Token). MOST < weight_after 0 0 ts) (take-append-le (turn + 1) xs ys (omega arith)) d.deep;
-  first = λ k le. subst (λ (ts : List Token). weight_after 0 0 ts ≤ MOST) (take-append-le k xs ys (omega arith)) (d.first k le);
-}
-
-order : (m n : ℕ) → (m ≤ n) ⊎ (n < m)
-order zero n = inl (omega arith)
-order (suc m) zero = inr (omega arith)
-order (suc m) (suc n) = next_to (order m n)
-  where
-    next_to : (m ≤ n) ⊎ (n < m) → (suc m ≤ suc n) ⊎ (suc n < suc m)
-    next_to (inl h) = inl (omega arith)
-    next_to (inr h) = inr (omega arith)
-
--- after a shallow front the first deep token stands, if there is one
-pub after-shallow : (xs ys : List Token) (begins : Begins xs) → IsShallow xs begins → (turn : ℕ) → DeepAt (xs ++ ys) 0 0 turn → length xs ≤ turn
-after-shallow xs ys begins shallow turn d = by (order (length xs) turn)
+-- after a front in which none is deep the first deep token stands, if there is one
+pub after-light : (xs ys : List Token) (begins : Begins xs) → NoneIsDeep xs begins → (turn : ℕ) → DeepAt (xs ++ ys) 0 0 turn → length xs ≤ turn
+after-light xs ys begins light turn d = by (order (length xs) turn)
   where
     by : (length xs ≤ turn) ⊎ (turn < length xs) → length xs ≤ turn
     by (inl h) = h
-    by (inr here) = absurd (shallow turn here ((fronts-are-deep-by-roles xs begins turn here).0 (deep-front xs ys turn here d)))
-
--- a front without deep tokens is shallow
-pub shallow-front : (xs ys : List Token) (begins : Begins xs) → ((turn : ℕ) → turn < length xs → ¬ DeepAt (xs ++ ys) 0 0 turn) → IsShallow xs begins
-shallow-front xs ys begins none turn here deep = none turn here (front-deep xs ys turn here ((fronts-are-deep-by-roles xs begins turn here).1 deep))
+    by (inr here) = absurd (light-by-pass xs begins light turn (deep-nearer xs ys turn here d))
 
 -- ---- the deep token
 

@@ -1,29 +1,20 @@
 -- Each text is a program or refused, and only one of these.
-use Rattle.std.proofs.Common.{◌≡◌, ℕ, zero, suc, ◌+◌, ◌<◌, ◌⊎◌, List, [], ◌∷◌, ◌++◌, length, take, drop, slice_get, Option, Some, None, Result, Ok, Err, inl, inr, refl, sym, ap, subst, ◌∙◌, append_assoc, append-nil, take-append-drop, length-append, arith}
-use Rattle.std.proofs.lemmas.List.{take-append-le}
-use Rattle.rb_tree.specs.declared.syntax.Tree.{Tree}
+use Rattle.std.proofs.Common.{◌≡◌, ℕ, zero, suc, ◌+◌, ◌<◌, ◌⊎◌, List, [], ◌∷◌, ◌++◌, length, take, inl, inr, refl, sym, ap, subst, ◌∙◌, length-append, arith}
 use Rattle.rb_tree.specs.declared.token.Token.{Token}
-use Rattle.rb_expr.specs.declared.ParseEnd.{ParseEnd}
-use Rattle.rb_expr.specs.declared.ParseEnd.TheVariants as parse
-use Rattle.rb_weight.specs.Scans.{first_too_deep}
 use Rattle.rb_weight.specs.Weights.{DeepAt}
-use Rattle.rb_weight_laws.proofs.Laws.{fronts-are-deep-by-roles, programs-are-deep-by-roles}
-use Rattle.rb_decl.specs.Programs.{program, parsed, parsed_by, whole, whole_of, cut, cut_of, token_start, end_of}
+use Rattle.rb_weight_laws.proofs.Laws.{fronts-are-deep-by-roles}
 use Rattle.rb_lex.specs.Lexed.{lexed_text}
 use Rattle.rb_lex_laws.proofs.Standing.{places-start}
 use Rattle.rb_lex_laws.proofs.Told.{each-told, outside-told, bad-told}
-use Rattle.rb_grammar_laws.proofs.Answers.{parsed-exactly}
-use Rattle.rb_refusal_laws.specs.Laws.{IsDeepAt}
-use Rattle.rb_refusal_laws.proofs.Fronts.{front-begins}
-use Rattle.rb_refusal_laws.proofs.Places.{answer, end-of-error, bad-places-are-exact, deep-places-are-exact}
-use Rattle.rb_refusal_laws.proofs.Refused.{deep-tokens-are-refused}
-use Rattle.rb_rules.specs.Grammar.{Begins, BadAt, EndsEarly}
+use Rattle.rb_rules.specs.Grammar.{Begins}
 use Rattle.rb_rules.specs.Lexes.{Lexes, OutsideAt, BadCharAt}
+use Rattle.rb_verdict_laws.specs.Verdicts as verdicts
+use Rattle.rb_verdict_laws.specs.Verdicts.{IsDeepToken, Holds, start_at}
+use Rattle.rb_verdict_laws.proofs.Verdicts.{one-holds}
 use Rattle.rb_text_laws.specs.Laws.{EachTextIsJudged, OneVerdict}
-use Rattle.rb_text_laws.specs.Texts.{IsNoRuby, IsOutside, IsTooDeep, IsToken, IsShallow, Verdict, Is, end_of_text}
+use Rattle.rb_text_laws.specs.Texts.{IsNoRuby, IsOutside, IsTooDeep, IsToken, Verdict, Is, end_of_text}
 use Rattle.rb_text_laws.proofs.Answers.{OfLexed, answered, middle-token, one-lexed}
 use Rattle.rb_text_laws.proofs.Characters.{character-at}
-use Rattle.rb_text_laws.proofs.Depths.{deep-front, shallow-front}
 use Rattle.rb_text_laws.proofs.Shown.{tokens-seen, token-shown}
 
 abbrev Judged : List ℕ → Type 0
@@ -42,52 +33,6 @@ bad-judged text at bad =
     (Verdict.NoRuby c.0, IsNoRuby.AtCharacter at c.0 bad c.1)
 
 -- ---- tokens
-
-whole-has-memory : (tokens : List Token) (r : Result Tree (List Token)) → whole_of tokens r ≡ Err parse.NoMemory → ⊥
-whole-has-memory tokens (Ok t) h = cc
-whole-has-memory tokens (Err rest) h = cc
-
-cut-has-memory : (last : ℕ) (r : Result Tree (List Token)) → cut_of last r ≡ parse.NoMemory → ⊥
-cut-has-memory last (Ok t) h = cc
-cut-has-memory last (Err []) h = cc
-cut-has-memory last (Err (t ∷ ts)) h = cc
-
--- no answer is that memory ran out
-has-memory : (tokens : List Token) (place : Option ℕ) → parsed_by tokens place ≡ Err parse.NoMemory → ⊥
-unfolding whole cut answer
-has-memory tokens None e = whole-has-memory tokens (program (length tokens + 2) tokens) e
-has-memory tokens (Some place) e =
-    let few = take (place + 1) tokens in
-    let last = token_start (slice_get tokens place) in
-    cut-has-memory last (program (length few + 2) few) (end-of-error (cut_of last (program (length few + 2) few)) parse.NoMemory e)
-
--- tokens that begin a program with the first of them that is deep are refused for that
-deep-refused : (tokens before rest : List Token) → tokens ≡ before ++ rest → Begins before → (turn : ℕ) → turn < length before → DeepAt tokens 0 0 turn → (at : ℕ) → parsed tokens ≡ Err (parse.Bad at) → ⊥
-deep-refused tokens before rest e begins turn here d at bad =
-    let front : take (turn + 1) tokens ++ drop (turn + 1) before ≡ before = fronts turn here in
-    let few : Begins (take (turn + 1) tokens) = front-begins (take (turn + 1) tokens) (drop (turn + 1) before) (subst Begins (sym front) begins) in
-    let deep = deep-tokens-are-refused tokens turn d few in
-    absurd (cc)
-  where
-    fronts : (turn : ℕ) → turn < length before → take (turn + 1) tokens ++ drop (turn + 1) before ≡ before
-    fronts turn here =
-        ap (λ (ts : List Token). take (turn + 1) ts ++ drop (turn + 1) before) e
-        ∙ ap (λ (ts : List Token). ts ++ drop (turn + 1) before) (take-append-le (turn + 1) before rest (omega arith)) ∙ take-append-drop (turn + 1) before
-
-bad-place-judged : (text : List ℕ) (tokens : List Token) (at : ℕ) → Lexes text tokens → parsed tokens ≡ Err (parse.Bad at) → BadAt tokens at ⊎ (EndsEarly tokens × (at ≡ end_of tokens)) → Judged text
-bad-place-judged text tokens at l e (inl bad) =
-    let shown = token-shown tokens (tokens-seen text tokens l) bad.bad (middle-token tokens bad.before bad.bad bad.after bad.whole) in
-    let place : IsToken tokens at shown.0 = subst (λ n. IsToken tokens n shown.0) (sym bad.place) shown.1 in
-    let shallow : IsShallow bad.before bad.begins =
-    shallow-front bad.before (bad.bad ∷ bad.after) bad.begins
-    (λ turn here d. deep-refused tokens bad.before (bad.bad ∷ bad.after) bad.whole bad.begins turn here (subst (λ (ts : List Token). DeepAt ts 0 0 turn) (sym bad.whole) d) at e) in
-    (Verdict.NoRuby shown.0, IsNoRuby.AtToken tokens at shown.0 l bad shallow place)
-bad-place-judged text tokens at l e (inr (early, _)) =
-    let all : tokens ++ [] ≡ tokens = append-nil tokens in
-    let shallow : IsShallow tokens early.begins =
-    shallow-front tokens [] early.begins
-    (λ turn here d. deep-refused tokens tokens [] (sym all) early.begins turn here (subst (λ (ts : List Token). DeepAt ts 0 0 turn) all d) at e) in
-    (Verdict.NoRuby (end_of_text text), IsNoRuby.AtEnd tokens l early shallow)
 
 -- a token with those before and after it
 record Split (tokens : List Token) (turn : ℕ) : Type 0 where
@@ -113,25 +58,28 @@ split-at (t ∷ tokens) (suc turn) h =
       front = ap (λ k. take k (t ∷ tokens)) n ∙ ap (λ (ts : List Token). t ∷ ts) s.front;
     }
 
-deep-judged : (text : List ℕ) (tokens : List Token) (at turn : ℕ) → Lexes text tokens → IsDeepAt tokens at turn → Judged text
-deep-judged text tokens at turn l d =
-    let s = split-at tokens turn d.deep.within in
-    let begins : Begins (s.before ++ s.token ∷ []) = subst Begins s.front d.begins in
-    let within : length s.before < length (s.before ++ s.token ∷ []) = omega (arith, length-append s.before (s.token ∷ [])) in
-    let long : DeepAt (s.before ++ s.token ∷ s.after) 0 0 (length s.before) =
-    subst (λ n. DeepAt (s.before ++ s.token ∷ s.after) 0 0 n) (sym s.place) (subst (λ (ts : List Token). DeepAt ts 0 0 turn) s.whole d.deep) in
-    let short : DeepAt (s.before ++ s.token ∷ []) 0 0 (length s.before) =
-    deep-front (s.before ++ s.token ∷ []) s.after (length s.before) within
-    (subst (λ (ts : List Token). DeepAt ts 0 0 (length s.before)) (sym (append_assoc s.before (s.token ∷ []) s.after)) long) in
-    (Verdict.TooDeep s.token.span, IsTooDeep.AtDeepToken tokens s.before s.token s.after l s.whole begins ((fronts-are-deep-by-roles (s.before ++ s.token ∷ []) begins (length s.before) within).0 short))
+deep-judged : (text : List ℕ) (tokens : List Token) (turn : ℕ) → Lexes text tokens → IsDeepToken tokens turn → Judged text
+deep-judged text tokens turn l d =
+    let here : turn < length tokens = d.within in
+    let s = split-at tokens turn here in
+    let few : List Token = s.before ++ s.token ∷ [] in
+    let begins : Begins few = subst Begins s.front d.begins in
+    let long : turn < length (take (turn + 1) tokens) = omega (arith, ap (λ (ts : List Token). length ts) s.front, length-append s.before (s.token ∷ []), s.place) in
+    let deep : DeepAt (take (turn + 1) tokens) 0 0 turn = (fronts-are-deep-by-roles (take (turn + 1) tokens) d.begins turn long).1 d.deep in
+    let within : length s.before < length few = omega (arith, length-append s.before (s.token ∷ [])) in
+    let short : DeepAt few 0 0 (length s.before) = subst (λ n. DeepAt few 0 0 n) (sym s.place) (subst (λ (ts : List Token). DeepAt ts 0 0 turn) s.front deep) in
+    (Verdict.TooDeep s.token.span, IsTooDeep.AtDeepToken tokens s.before s.token s.after l s.whole begins ((fronts-are-deep-by-roles few begins (length s.before) within).0 short))
 
-tokens-judged : (text : List ℕ) (tokens : List Token) → Lexes text tokens → (r : Result Tree ParseEnd) → parsed tokens ≡ r → Judged text
-tokens-judged text tokens l (Ok tree) e =
-    let p = (parsed-exactly tokens tree).0 e in
-    (Verdict.Program tree, record { tokens = tokens; lexes = l; derives = p.0; shallow = λ turn deep. p.1 turn ((programs-are-deep-by-roles tokens tree p.0 turn).1 deep) })
-tokens-judged text tokens l (Err (parse.Bad at)) e = bad-place-judged text tokens at l e (bad-places-are-exact tokens at e)
-tokens-judged text tokens l (Err (parse.TooDeep at)) e = let d = deep-places-are-exact tokens at e in deep-judged text tokens at d.0 l d.1
-tokens-judged text tokens l (Err parse.NoMemory) e = absurd (has-memory tokens (first_too_deep tokens 0 0 0) e)
+-- what the tokens of a text are says what the text is
+tokens-judged : (text : List ℕ) (tokens : List Token) → Lexes text tokens → (v : verdicts.Verdict) → Holds tokens v → Judged text
+tokens-judged text tokens l (verdicts.Verdict.Program tree) p = (Verdict.Program tree, record { tokens = tokens; lexes = l; derives = p.derives; shallow = p.light })
+tokens-judged text tokens l (verdicts.Verdict.BadToken turn) b =
+    let bad = b.bad in
+    let shown = token-shown tokens (tokens-seen text tokens l) bad.bad (middle-token tokens bad.before bad.bad bad.after bad.whole) in
+    let place : IsToken tokens (start_at tokens turn) shown.0 = subst (λ n. IsToken tokens n shown.0) (sym bad.place) shown.1 in
+    (Verdict.NoRuby shown.0, IsNoRuby.AtToken tokens (start_at tokens turn) shown.0 l bad b.light place)
+tokens-judged text tokens l verdicts.Verdict.Short s = (Verdict.NoRuby (end_of_text text), IsNoRuby.AtEnd tokens l s.early s.light)
+tokens-judged text tokens l (verdicts.Verdict.DeepToken turn) d = deep-judged text tokens turn l d
 
 -- ---- the laws
 
@@ -139,7 +87,7 @@ pub each-text-is-judged : EachTextIsJudged
 each-text-is-judged text = by (each-told text)
   where
     by : ((tokens : List Token) × Lexes text tokens) ⊎ ((at : ℕ) × OutsideAt text at) ⊎ ((at : ℕ) × BadCharAt text at) → Judged text
-    by (inl (tokens, l)) = tokens-judged text tokens l (parsed tokens) refl
+    by (inl (tokens, l)) = let v = one-holds tokens in tokens-judged text tokens l v.0 v.1
     by (inr (inl (at, form))) = outside-judged text at form
     by (inr (inr (at, bad))) = bad-judged text at bad
 

@@ -9,6 +9,7 @@ use Rattle.rb_rules.specs.Grammar.{Derives, Begins, BadAt, EndsEarly}
 use Rattle.rb_rules.specs.Lexes.{Lexes, OutsideAt, BadCharAt, byte_len}
 use Rattle.rb_rules.specs.Tokens.{IsOneOf}
 use Rattle.rb_weight_laws.specs.Weights.{DeepByRoles}
+use Rattle.rb_verdict_laws.specs.Verdicts.{NoneIsDeep}
 
 -- ---- places
 
@@ -37,12 +38,6 @@ pub record IsToken (tokens : List Token) (at : ℕ) (span : Span) : Type 0 where
   pub some : token.span.start < token.span.end
   pub span_is : span ≡ token.span
 
--- ---- depth
-
--- tokens that begin a program nest too deep nowhere
-abbrev pub IsShallow : (tokens : List Token) → Begins tokens → Type 0
-IsShallow tokens begins = (turn : ℕ) → turn < length tokens → ¬ DeepByRoles begins.2 turn
-
 -- ---- texts
 
 -- the text is a program with this tree: its tokens derive as one, and nest too deep nowhere
@@ -56,8 +51,8 @@ pub record IsProgram (text : List ℕ) (tree : Tree) : Type 0 where
 -- goes on, or at the text's end, where a string or the tokens end too early. No token before it nests too deep.
 pub data IsNoRuby (text : List ℕ) : Span → Type 0 where
   AtCharacter : (at : ℕ) (span : Span) → BadCharAt text at → IsCharacterOrEnd text at span → IsNoRuby text span
-  AtToken : (tokens : List Token) (at : ℕ) (span : Span) → Lexes text tokens → (bad : BadAt tokens at) → IsShallow bad.before bad.begins → IsToken tokens at span → IsNoRuby text span
-  AtEnd : (tokens : List Token) → Lexes text tokens → (early : EndsEarly tokens) → IsShallow tokens early.begins → IsNoRuby text (end_of_text text)
+  AtToken : (tokens : List Token) (at : ℕ) (span : Span) → Lexes text tokens → (bad : BadAt tokens at) → NoneIsDeep bad.before bad.begins → IsToken tokens at span → IsNoRuby text span
+  AtEnd : (tokens : List Token) → Lexes text tokens → (early : EndsEarly tokens) → NoneIsDeep tokens early.begins → IsNoRuby text (end_of_text text)
 
 -- a form that is outside the profile begins at this character, the first such place in the text
 pub data IsOutside (text : List ℕ) : Span → Type 0 where
