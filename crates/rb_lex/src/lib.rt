@@ -12,6 +12,7 @@ ghost use Rattle.rb_lex.specs.Levels.{level_of_text};
 mod chars;
 mod cut;
 mod heading;
+mod met;
 mod number;
 mod operator;
 mod piece;

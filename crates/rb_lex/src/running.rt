@@ -7,6 +7,7 @@ ghost use Rattle.srb_text.specs.Limits.{MOST_BYTES};
 
 use crate::LexEnd;
 use crate::chars::after;
+use crate::met::Met;
 use crate::state::State;
 use rb_tree::token::Token;
 use std::alloc::Global;
@@ -17,11 +18,12 @@ pub fn lex_bytes(alloc: Global, text: &[u8]) -> Result<Vec<Token>, LexEnd>
     requires text { IsUtf8 text.now }
     ensures { Gives (λ v. v.items) result (lexed text.now) }
 {
+    let mut met = Met::new(alloc)?;
     let mut state = State::new(alloc);
     let mut at: u32 = 0;
     let mut rest = text;
     while !rest.is_empty() {
-        match state.step(alloc, at, rest) {
+        match state.step(alloc, &mut met, at, rest) {
             Ok(len) => {
                 at += len as u32;
                 rest = after(rest, len);

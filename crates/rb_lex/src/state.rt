@@ -11,6 +11,7 @@ ghost use Rattle.rb_lex.specs.Lexed.{Gives, IsNoMemory};
 use crate::LexEnd;
 use crate::chars::{after, byte, is_letter};
 use crate::cut::{Before, Cut, Lexeme, Look, after_operator, cut_of, is_opener, names_method};
+use crate::met::Met;
 use crate::piece::{Stop, is_touched, piece_of};
 use rb_tree::token::{Shape, Token, TokenKind};
 use srb_terms::{Items, NoMemory, Span, Words};
@@ -52,12 +53,12 @@ impl From<NoMemory> for LexEnd {
     }
 }
 
-fn copied(alloc: Global, words: &[u8]) -> Result<Words, LexEnd>
+fn copied(alloc: Global, met: &mut Met, words: &[u8]) -> Result<Words, LexEnd>
     requires { IsUtf8 words.now }
     ensures { Gives (λ w. w) result (Ok words.now) }
 {
     match std::str::from_utf8(words) {
-        Ok(text) => Ok(Words::from_str(alloc, text)?),
+        Ok(text) => Ok(met.words(alloc, text)?),
         Err(_) => unreachable!(),
     }
 }
@@ -83,11 +84,11 @@ fn words_of(shape: Shape, len: usize, z: &[u8]) -> &[u8]
     }
 }
 
-fn named_kind(alloc: Global, shape: Shape, words: &[u8]) -> Result<TokenKind, LexEnd>
+fn named_kind(alloc: Global, met: &mut Met, shape: Shape, words: &[u8]) -> Result<TokenKind, LexEnd>
     requires { IsUtf8 words.now }
     ensures { Gives (λ k. k) result (Ok (spec.named_kind shape words.now)) }
 {
-    let words = copied(alloc, words)?;
+    let words = copied(alloc, met, words)?;
     Ok(named(shape, words))
 }
 
@@ -114,13 +115,13 @@ fn named(shape: Shape, words: Words) -> TokenKind
 }
 
 #[tactic(auto, unfolding(crate::specs::Lexed::kind_of))]
-fn kind_of(alloc: Global, shape: Shape, words: &[u8]) -> Result<TokenKind, LexEnd>
+fn kind_of(alloc: Global, met: &mut Met, shape: Shape, words: &[u8]) -> Result<TokenKind, LexEnd>
     requires { IsUtf8 words.now }
     ensures { Gives (λ k. k) result (Ok (spec.kind_of shape words.now)) }
 {
     match shape.plain() {
         Some(kind) => Ok(kind),
-        None => named_kind(alloc, shape, words),
+        None => named_kind(alloc, met, shape, words),
     }
 }
 
@@ -239,7 +240,14 @@ impl State {
     }
 
     #[tactic(auto, unfolding(crate::specs::Lexed::accepted))]
-    fn accept(&mut self, alloc: Global, lexeme: Lexeme, at: u32, z: &[u8]) -> Result<(), LexEnd>
+    fn accept(
+        &mut self,
+        alloc: Global,
+        met: &mut Met,
+        lexeme: Lexeme,
+        at: u32,
+        z: &[u8],
+    ) -> Result<(), LexEnd>
         requires within { lexeme.len ≤ length z.now }
         requires moves { 0 < lexeme.len }
         requires fits { at + length z.now < 2 ^ 31 }
@@ -250,14 +258,25 @@ impl State {
         let goes = continues(lexeme.shape, after(z, lexeme.len));
         let entering = continued(goes, self.last, lexeme);
         self.join(goes);
-        let kind = kind_of(alloc, lexeme.shape, words_of(lexeme.shape, lexeme.len, z))?;
+        let kind = kind_of(
+            alloc,
+            met,
+            lexeme.shape,
+            words_of(lexeme.shape, lexeme.len, z),
+        )?;
         self.push(kind, at, end)?;
         self.enter(entering);
         self.nest(lexeme.shape, end)
     }
 
     #[tactic(auto, using(crate::proofs::Boundaries::token_text), unfolding(crate::specs::Lexed::code_step))]
-    fn code_step(&mut self, alloc: Global, at: u32, z: &[u8]) -> Result<usize, LexEnd>
+    fn code_step(
+        &mut self,
+        alloc: Global,
+        met: &mut Met,
+        at: u32,
+        z: &[u8],
+    ) -> Result<usize, LexEnd>
         requires some { 0 < length z.now }
         requires fits { at + length z.now < 2 ^ 31 }
         ensures value { Gives (λ n. (n, self.new)) result (spec.code_step at z.now self.old) }
@@ -282,7 +301,7 @@ impl State {
                 Ok(1)
             }
             Cut::Token { lexeme } => {
-                self.accept(alloc, lexeme, at, z)?;
+                self.accept(alloc, met, lexeme, at, z)?;
                 Ok(lexeme.len)
             }
             Cut::Outside => Err(LexEnd::Outside { at }),
@@ -311,6 +330,7 @@ impl State {
     fn push_piece(
         &mut self,
         alloc: Global,
+        met: &mut Met,
         piece: &[u8],
         start: u32,
         end: u32,
@@ -318,13 +338,14 @@ impl State {
         requires { IsUtf8 piece.now }
         ensures { Gives (λ _. self.new) result (Ok (spec.pushed (TokenKind.Text piece.now) start end self.old)) }
     {
-        let words = copied(alloc, piece)?;
+        let words = copied(alloc, met, piece)?;
         self.push(TokenKind::Text { words }, start, end)
     }
 
     fn quoted(
         &mut self,
         alloc: Global,
+        met: &mut Met,
         opened: Opened,
         at: u32,
         len: usize,
@@ -340,7 +361,7 @@ impl State {
             return Err(LexEnd::Outside { at: opened.opening });
         }
         let end = at + len as u32 + 1;
-        self.push_piece(alloc, &z[..len], opened.from, end)?;
+        self.push_piece(alloc, met, &z[..len], opened.from, end)?;
         self.leave(true);
         Ok(len + 1)
     }
@@ -348,6 +369,7 @@ impl State {
     fn interpolated(
         &mut self,
         alloc: Global,
+        met: &mut Met,
         opened: Opened,
         at: u32,
         len: usize,
@@ -360,7 +382,7 @@ impl State {
         ensures within { IfOk result (λ n. (0 < n) × (n ≤ length z.now)) }
     {
         let end = at + len as u32;
-        self.push_piece(alloc, &z[..len], opened.from, end)?;
+        self.push_piece(alloc, met, &z[..len], opened.from, end)?;
         self.push(TokenKind::Interpolation, end, end + 2)?;
         self.nesting.push(Some(opened.opening))?;
         self.leave(false);
@@ -371,6 +393,7 @@ impl State {
     fn string_step(
         &mut self,
         alloc: Global,
+        met: &mut Met,
         opened: Opened,
         at: u32,
         z: &[u8],
@@ -383,8 +406,8 @@ impl State {
     {
         let piece = piece_of(opened.quote, z);
         match piece.stop {
-            Stop::Quote => self.quoted(alloc, opened, at, piece.len, z),
-            Stop::Interpolation => self.interpolated(alloc, opened, at, piece.len, z),
+            Stop::Quote => self.quoted(alloc, met, opened, at, piece.len, z),
+            Stop::Interpolation => self.interpolated(alloc, met, opened, at, piece.len, z),
             Stop::Foreign => Err(LexEnd::Outside {
                 at: at + piece.len as u32,
             }),
@@ -394,9 +417,9 @@ impl State {
         }
     }
 
-    /// Takes one step from the place `at`, after which `z` stands, and answers how many bytes it takes.
+    /// Takes one step from the place `at`, after which `z` stands, and answers how many bytes it takes. Words that were met before are shared.
     #[tactic(auto, unfolding(crate::specs::Lexed::step))]
-    pub fn step(&mut self, alloc: Global, at: u32, z: &[u8]) -> Result<usize, LexEnd>
+    pub fn step(&mut self, alloc: Global, met: &mut Met, at: u32, z: &[u8]) -> Result<usize, LexEnd>
         requires some { 0 < length z.now }
         requires fits { at + length z.now < 2 ^ 31 }
         requires text { IsUtf8 z.now }
@@ -405,8 +428,8 @@ impl State {
         ensures within { IfOk result (λ n. (0 < n) × (n ≤ length z.now)) }
     {
         match self.string {
-            Some(opened) => self.string_step(alloc, opened, at, z),
-            None => self.code_step(alloc, at, z),
+            Some(opened) => self.string_step(alloc, met, opened, at, z),
+            None => self.code_step(alloc, met, at, z),
         }
     }
 
