@@ -109,6 +109,11 @@ const OPERATORS: &[(&str, &str)] = &[
         "a - b - c",
         "Binary(Minus,(Binary(Minus,(Name(a)),(Name(b)))),(Name(c)))",
     ),
+    // `ay` and `bZ` are words of one slot of the lexer's
+    (
+        "ay - bZ - ay - bZ",
+        "Binary(Minus,(Binary(Minus,(Binary(Minus,(Name(ay)),(Name(bZ)))),(Name(ay)))),(Name(bZ)))",
+    ),
     (
         "a ** b ** c",
         "Binary(Power,(Name(a)),(Binary(Power,(Name(b)),(Name(c)))))",
