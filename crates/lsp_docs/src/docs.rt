@@ -148,7 +148,7 @@ impl Docs {
     }
 
     /// The path of the file at `index`, in byte order of the paths.
-    pub fn path(&self, index: usize) -> &Name
+    pub fn path_at(&self, index: usize) -> &Name
         requires { index < length self.now.project }
         ensures { slice_get (paths_of self.now.project) index ≡ Some result.now }
     {

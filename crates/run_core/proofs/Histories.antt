@@ -10,7 +10,7 @@ use Rattle.lsp_docs.specs.declared.doc_end.DocEnd.{DocEnd}
 use Rattle.lsp_docs.specs.Projects.{Project, Edit, after_edit, after_all}
 use Rattle.lsp_docs.specs.Documents.{Documents, Deed, applied}
 use Rattle.run_core.specs.Sessions.{Phase, Waiting, Serving, Closing, Session, Told, Nothing, Failed, Logged, Began, Edited, Kept, Ended, told, told_in, told_by, when_waiting, when_serving, when_closing, after_told, answer_of, reason_of}
-use Rattle.run_core.specs.Histories.{Shutdown as Shut, History, no_history, listed, edit_of, marked, shutdown_of, heard_as, heard, heard_all, history}
+use Rattle.run_core.specs.Histories.{Shutdown as Shut, History, no_history, listed, edit_of, answers_at_edit, shutdown_of, heard_as, heard, heard_all, history}
 use Rattle.run_core.specs.Legal.{Begins}
 use Rattle.run_core.proofs.Messages.{Begins-refl, Begins-nil, Begins-more}
 
@@ -103,7 +103,7 @@ no_history_sound base = record {
 }
 
 counted_more : (h : History) (t : Told) → length h.answered ≡ length h.edits →
-    length (h.answered ++ marked h.answers t) ≡ length (h.edits ++ edit_of t)
+    length (h.answered ++ answers_at_edit h.answers t) ≡ length (h.edits ++ edit_of t)
 counted_more h (Edited e opened) p = simp length-append (omega arith)
 counted_more h Nothing p = simp append-nil p
 counted_more h (Failed id code) p = simp append-nil p
@@ -118,7 +118,7 @@ get_or-append_each P [] ys n p q = q n
 get_or-append_each P (x ∷ xs) ys zero p q = p 0
 get_or-append_each P (x ∷ xs) ys (suc n) p q = get_or-append_each P xs ys n (λ k. p (suc k)) q
 
-marked_more : (h : History) (t : Told) (n : ℕ) → Begins (get_or (marked h.answers t) n []) (h.answers ++ listed (answer_of t))
+marked_more : (h : History) (t : Told) (n : ℕ) → Begins (get_or (answers_at_edit h.answers t) n []) (h.answers ++ listed (answer_of t))
 marked_more h (Edited e opened) zero = Begins-more _ _ _ (Begins-refl h.answers)
 marked_more h (Edited e opened) (suc n) = Begins-nil _
 marked_more h Nothing n = Begins-nil _
@@ -175,7 +175,7 @@ project_more base h (Ended id) p = rw append-nil p
 pub heard_sound : (base : Project) (h : History) (t : Told) → Fits h.session.phase t → Sound base h → Sound base (heard_as h t)
 heard_sound base h t f s = record {
   counted = counted_more h t s.counted;
-  marked = λ n. get_or-append_each (λ x. Begins x (h.answers ++ listed (answer_of t))) h.answered (marked h.answers t) n
+  marked = λ n. get_or-append_each (λ x. Begins x (h.answers ++ listed (answer_of t))) h.answered (answers_at_edit h.answers t) n
       (λ k. Begins-more _ _ _ (s.marked k)) (marked_more h t);
   shut = shut_more h t s.shut;
   quiet = quiet_more h t f s.quiet;

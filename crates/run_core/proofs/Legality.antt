@@ -13,7 +13,7 @@ use Rattle.lsp_docs.specs.Projects.{Project, Edit, after_all, after}
 use Rattle.lsp_docs.specs.Documents.{Agreed}
 use Rattle.run_core.specs.Language.{Language}
 use Rattle.run_core.specs.Sessions.{Phase, Waiting, Serving, Closing, Session, Told, Nothing, Failed, Logged, Began, Edited, Kept, Ended, told, after_told}
-use Rattle.run_core.specs.Histories.{Shutdown, History, edit_of, marked, shutdown_of, heard_as, heard, heard_all, history, is_edited, is_known, answered_before}
+use Rattle.run_core.specs.Histories.{Shutdown, History, edit_of, answers_at_edit, shutdown_of, heard_as, heard, heard_all, history, is_edited, is_known, answered_before}
 use Rattle.run_core.specs.Legal.{IsBegun, MayFarewell, MayList, MayStand, EachMayStand, LegalSoFar}
 use Rattle.run_core.proofs.Messages.{Begins-more}
 use Rattle.run_core.proofs.Histories.{Fits, told_fits, Quiet, Sound, heard_sound, history_sound, heard_all-append}
@@ -53,7 +53,7 @@ known_stays base es more f k = let e = is_edited-append f es more in grind (arit
 answered_stays : (h : History) (t : Told) (n : ℕ) → length h.answered ≡ length h.edits → n ≤ length h.edits →
     answered_before (heard_as h t) n ≡ answered_before h n
 answered_stays h t zero p q = refl
-answered_stays h t (suc n) p q = get_or-append h.answered (marked h.answers t) [] n (omega arith)
+answered_stays h t (suc n) p q = get_or-append h.answered (answers_at_edit h.answers t) [] n (omega arith)
 
 after_stays : (base : Project) (es more : List Edit) (n : ℕ) → n ≤ length es → after base (es ++ more) n ≡ after base es n
 after_stays base es more n p = ap (after_all base) (take-append-le n es more p)

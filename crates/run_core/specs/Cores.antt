@@ -115,8 +115,8 @@ is_closing Serving = false
 is_closing Closing = true
 
 -- the cause of the end that was taken, and whether `shutdown` was accepted before it
-abbrev pub end_of : State → Option (EndCause × Bool)
-end_of s = option_map (λ cause. (cause, is_closing s.session.phase)) s.ended
+abbrev pub end_taken : State → Option (EndCause × Bool)
+end_taken s = option_map (λ cause. (cause, is_closing s.session.phase)) s.ended
 
 -- the end that an input tells
 abbrev pub ended_by : Inp → Option EndCause

@@ -41,9 +41,9 @@ edit_of (Edited e opened) = e ∷ []
 edit_of t = []
 
 -- where a message is an edit, the answers before it
-abbrev pub marked : List Out → Told → List (List Out)
-marked answers (Edited e opened) = answers ∷ []
-marked answers t = []
+abbrev pub answers_at_edit : List Out → Told → List (List Out)
+answers_at_edit answers (Edited e opened) = answers ∷ []
+answers_at_edit answers t = []
 
 -- the `shutdown` that a message is, else the one before it
 abbrev pub shutdown_of : History → Told → Option Shutdown
@@ -56,7 +56,7 @@ heard_as h t = record {
   session = after_told h.session t;
   edits = h.edits ++ edit_of t;
   answers = h.answers ++ listed (answer_of t);
-  answered = h.answered ++ marked h.answers t;
+  answered = h.answered ++ answers_at_edit h.answers t;
   shutdown = shutdown_of h t;
 }
 

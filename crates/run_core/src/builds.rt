@@ -51,7 +51,7 @@ fn add_at(
     requires front { AreLoaded (take index docs.now.project) files.old }
     ensures { OnOk result (AreLoaded (take (index + 1) docs.now.project) files.new) }
 {
-    let path = docs.path(index);
+    let path = docs.path_at(index);
     match docs.bytes(path) {
         Some(bytes) => files.add(alloc, path.copied()?, bytes, before),
         None => unreachable!(),
@@ -132,7 +132,7 @@ fn add_edited(
     requires others { (f : Path) (bytes : Bytes) → f ≢ path.now → bytes_at f docs.now.project ≡ Some bytes → IsJobWith f bytes before.now }
     ensures { OnOk result (AreLoaded (take (index + 1) docs.now.project) files.new) }
 {
-    let here = docs.path(index);
+    let here = docs.path_at(index);
     if !here.is_same(path) {
         return files.keep(here.copied()?, before);
     }

@@ -12,7 +12,7 @@ ghost use Rattle.srb_check.specs.Found.{IsFoundIn};
 ghost use Rattle.srb_check.specs.Jobs.{IsJobOf};
 ghost use Rattle.srb_check.specs.Records.{loaded};
 ghost use Rattle.srb_terms.specs.Projects.{bytes_at};
-ghost use Rattle.run_core.specs.Cores.{Lands, LandsBy, Makes, IsEdited, IsNextOwn, after_edit_at, checks_after, end_of, ended_by, has_own, is_idle, keeps_at};
+ghost use Rattle.run_core.specs.Cores.{Lands, LandsBy, Makes, IsEdited, IsNextOwn, after_edit_at, checks_after, end_taken, ended_by, has_own, is_idle, keeps_at};
 ghost use Rattle.run_core.specs.Machine.{is_at_rest, looked, opening, project_of};
 ghost use Rattle.run_core.specs.Sessions.{Waiting, Serving};
 
@@ -464,7 +464,7 @@ impl Core {
     /// The cause of the end that was taken, and whether a `shutdown` was accepted before it. `None` exactly where no end
     /// was taken.
     pub fn end(&self) -> Option<(EndCause, bool)>
-        ensures end { result ≡ end_of self.now.state }
+        ensures end { result ≡ end_taken self.now.state }
         ensures none { is_some result ≡ is_some self.now.state.ended }
     {
         match self.ended {

@@ -33,7 +33,7 @@ use Rattle.run_core.specs.Settled.{Settled}
 use Rattle.run_core.specs.Sessions.{Told, Nothing, Failed, Logged, Began, Edited, Kept as Saved, Ended, told}
 use Rattle.run_core.specs.Machine.{State, opening, project_of, next, after_taken, after_taken_edit}
 use Rattle.run_core.specs.Runs.{messages_in, outs, state_after, IsOver, Leads, Over}
-use Rattle.run_core.specs.Cores.{checked_language, is_closing, end_of as end_taken}
+use Rattle.run_core.specs.Cores.{checked_language, is_closing, end_taken}
 use Rattle.run_core.proofs.Histories.{Quiet, history_sound}
 use Rattle.run_core.proofs.KeptFacts.{checked_is_language}
 use Rattle.run_core.proofs.Legality.{legal_part, legal_stays}

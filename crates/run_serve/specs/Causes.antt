@@ -3,7 +3,7 @@ use Rattle.std.specs.Prelude.{◌≡◌, Bool, Some, Result, Ok, Err, if◌then�
 use Rattle.run_watch.specs.declared.end_cause.EndCause.{EndCause}
 use Rattle.run_watch.specs.declared.end_cause.EndCause.TheVariants as end
 use Rattle.run_core.specs.Machine.{State}
-use Rattle.run_core.specs.Cores.{end_of}
+use Rattle.run_core.specs.Cores.{end_taken}
 use Rattle.run_serve.specs.declared.serve_end.ServeEnd.{ServeEnd}
 use Rattle.run_serve.specs.declared.serve_end.ServeEnd.TheVariants.{WriteFault, NoMemory}
 use Rattle.srb_terms.specs.declared.cause.Cause.{Cause}
@@ -26,5 +26,5 @@ cause_of_stop NoMemory = cause.NoMemory
 -- The cause of a session's end, by how its coordinator stopped and by the state of its core: that of the end that the core took where all
 -- was done, else the coordinator's.
 abbrev pub IsCauseBy : {T : Type 0} → Result T ServeEnd → State → Cause → Type 0
-IsCauseBy (Ok done) s why = (p : EndCause × Bool) × (end_of s ≡ Some p) × (why ≡ cause_of p.0 p.1)
+IsCauseBy (Ok done) s why = (p : EndCause × Bool) × (end_taken s ≡ Some p) × (why ≡ cause_of p.0 p.1)
 IsCauseBy (Err stop) s why = why ≡ cause_of_stop stop

@@ -8,7 +8,7 @@ use Rattle.std.specs.declared.cmp.Ordering.{Ordering}
 use Rattle.std.specs.declared.cmp.Ordering.TheVariants.{Less, Equal, Greater}
 use Rattle.std.proofs.lemmas.Bool.Decides.{nat_tests}
 use Rattle.std.proofs.lemmas.Slice.Eq.{bytes_eq-Decides}
-use Rattle.srb_io.specs.Files.{File, IsBeforeEach, AreInOrder, is_among, bytes_at}
+use Rattle.srb_io.specs.Files.{FolderFile, IsBeforeEach, AreInOrder, is_among, bytes_at}
 use Rattle.srb_terms.specs.declared.cause.Cause.{Cause}
 use Rattle.srb_terms.specs.declared.cause.Cause.TheVariants.{Done, Errors, NoShutdown, Usage, ReadFault, WriteFault, Broken, TooLong, TooMany, TooBig, NoMemory}
 use Rattle.lsp_frame.specs.Bodies.{bodies_of, Ending}
@@ -90,11 +90,11 @@ some_same x y same = ap (λ o. unwrap_or o x) same
 first_same : (p q : List ℕ) (ps qs : List (List ℕ)) → p ∷ ps ≡ q ∷ qs → (p ≡ q) × (ps ≡ qs)
 first_same p q ps qs e = (cc, cc)
 
-told_once : (told : List File) (p q : List ℕ) (a b : List ℕ) → p ≡ q → bytes_at p told ≡ Some a → bytes_at q told ≡ Some b → a ≡ b
+told_once : (told : List FolderFile) (p q : List ℕ) (a b : List ℕ) → p ≡ q → bytes_at p told ≡ Some a → bytes_at q told ≡ Some b → a ≡ b
 told_once told p q a b same x y = some_same a b (sym x ∙ ap (λ r. bytes_at r told) same ∙ y)
 
 -- the files of the folder up to one of them have no more bytes than all
-up_to : (told : List File) (front : List File) (path bytes : List ℕ) (later : List (List ℕ)) (base : List File) → paths_of front ++ path ∷ later ≡ paths_of base
+up_to : (told : List FolderFile) (front : List FolderFile) (path bytes : List ℕ) (later : List (List ℕ)) (base : List FolderFile) → paths_of front ++ path ∷ later ≡ paths_of base
     → AreTold (Some told) front → IsTold (Some told) (path, bytes) → AreTold (Some told) base → total_bytes front + length bytes ≤ total_bytes base
 up_to told [] path bytes later [] e f t b = absurd (let wrong : path ∷ later ≡ [] = e in cc)
 up_to told [] path bytes later (file ∷ files) e f t b =
@@ -113,13 +113,13 @@ up_to told (x ∷ xs) path bytes later (file ∷ files) e f t b =
     let front : total_bytes (x ∷ xs) ≡ (0 + length x.1) + total_bytes xs = total_bytes-append (x ∷ []) xs in
     omega (arith, long, rest, sum, front)
 
-not_many : (told : List File) (base : Project) (n : ℕ) → IsFolder (Some told) base → IsWithin base → IsPastFiles (Some told) n → ⊥
+not_many : (told : List FolderFile) (base : Project) (n : ℕ) → IsFolder (Some told) base → IsWithin base → IsPastFiles (Some told) n → ⊥
 not_many told base n folder within past =
     let same : past.paths ≡ paths_of base = same_paths past.paths (paths_of base) past.ordered folder.ordered (λ p. past.listed p ∙ sym (folder.listed p)) in
     let many : length past.paths ≡ length base = ap length same ∙ length-paths_of base in
     absurd (omega (arith, many, past.counted, past.past, within.files))
 
-not_big : (told : List File) (base : Project) (path : List ℕ) → IsFolder (Some told) base → IsWithin base → IsPastBytes (Some told) path → ⊥
+not_big : (told : List FolderFile) (base : Project) (path : List ℕ) → IsFolder (Some told) base → IsWithin base → IsPastBytes (Some told) path → ⊥
 not_big told base path folder within past =
     let all = paths_of past.front ++ path ∷ past.later in
     let same : all ≡ paths_of base = same_paths all (paths_of base) past.ordered folder.ordered (λ p. past.listed p ∙ sym (folder.listed p)) in
@@ -127,7 +127,7 @@ not_big told base path folder within past =
     absurd (omega (arith, fits, past.past, within.bytes))
 
 -- where nothing failed, a folder within the limits gives no project because memory ran out alone
-unread : (told : List File) (base : Project) (cause : Cause) (before after : ℕ) → IsFolder (Some told) base → IsWithin base → after ≡ before
+unread : (told : List FolderFile) (base : Project) (cause : Cause) (before after : ℕ) → IsFolder (Some told) base → IsWithin base → after ≡ before
     → IsUnread cause (Some told) before after → cause ≡ NoMemory
 unread told base ReadFault before after folder within same u = absurd (omega (arith, same, u))
 unread told base (TooMany n) before after folder within same u = absurd (not_many told base n folder within u.0)

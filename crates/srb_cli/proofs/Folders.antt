@@ -9,7 +9,7 @@ use Rattle.std.specs.Cmp.Lexicographic.{nat_list_cmp_total}
 use Rattle.std.specs.declared.cmp.Ordering.TheVariants.{Less}
 use Rattle.std.proofs.lemmas.List.{length-map}
 use Rattle.std.proofs.lemmas.List.Sums.{sum_by-append}
-use Rattle.srb_io.specs.Files.{File, IsBeforeEach, AreInOrder, AreListed}
+use Rattle.srb_io.specs.Files.{FolderFile, IsBeforeEach, AreInOrder, AreListed}
 use Rattle.srb_terms.specs.Projects.{IsBeforeAll, IsAfterAll, IsProject, path_cmp, put_file}
 use Rattle.srb_terms.proofs.ProjectOrder.{put_file-after}
 use Rattle.lsp_docs.specs.Projects.{paths_of, total_bytes}
@@ -20,11 +20,11 @@ use Rattle.srb_cli.specs.Folders.{IsTold, AreTold, IsFolder, IsUnread, IsFileUnr
 
 -- ---- in order
 
-before_all : (path : List ℕ) (files : List File) → IsBeforeEach path (paths_of files) → IsBeforeAll path files
+before_all : (path : List ℕ) (files : List FolderFile) → IsBeforeEach path (paths_of files) → IsBeforeAll path files
 before_all path [] each = tt
 before_all path (file ∷ files) each = (each.0, before_all path files each.1)
 
-pub project_in_order : (files : List File) → AreInOrder (paths_of files) → IsProject files
+pub project_in_order : (files : List FolderFile) → AreInOrder (paths_of files) → IsProject files
 project_in_order [] ordered = tt
 project_in_order (file ∷ files) ordered = (before_all file.0 files ordered.0, project_in_order files ordered.1)
 
@@ -33,45 +33,45 @@ before_one : (p q : List ℕ) (xs ys : List (List ℕ)) → IsBeforeEach p (xs +
 before_one p q [] ys each = each.0
 before_one p q (x ∷ xs) ys each = before_one p q xs ys each.1
 
-pub after_all : (path : List ℕ) (files : List File) (later : List (List ℕ)) → AreInOrder (paths_of files ++ path ∷ later) → IsAfterAll path files
+pub after_all : (path : List ℕ) (files : List FolderFile) (later : List (List ℕ)) → AreInOrder (paths_of files ++ path ∷ later) → IsAfterAll path files
 after_all path [] later ordered = tt
 after_all path (file ∷ files) later ordered =
     (nat_list_cmp_total.antisymm path file.0 ∙ ap ordering_reverse (before_one file.0 path (paths_of files) later ordered.0), after_all path files later ordered.1)
 
-append_none : (files : List File) → files ++ [] ≡ files
+append_none : (files : List FolderFile) → files ++ [] ≡ files
 append_none [] = refl
 append_none (file ∷ files) = ap (λ rest. file ∷ rest) (append_none files)
 
-pub put_at_end : (path bytes : List ℕ) (files : List File) (later : List (List ℕ)) → AreInOrder (paths_of files ++ path ∷ later)
+pub put_at_end : (path bytes : List ℕ) (files : List FolderFile) (later : List (List ℕ)) → AreInOrder (paths_of files ++ path ∷ later)
     → put_file path bytes files ≡ files ++ (path, bytes) ∷ []
 put_at_end path bytes files later ordered =
     ap (put_file path bytes) (sym (append_none files)) ∙ put_file-after path bytes files [] (after_all path files later ordered)
 
-pub paths_of-append : (xs ys : List File) → paths_of (xs ++ ys) ≡ paths_of xs ++ paths_of ys
+pub paths_of-append : (xs ys : List FolderFile) → paths_of (xs ++ ys) ≡ paths_of xs ++ paths_of ys
 paths_of-append [] ys = refl
 paths_of-append (x ∷ xs) ys = ap (λ rest. x.0 ∷ rest) (paths_of-append xs ys)
 
-pub length-paths_of : (files : List File) → length (paths_of files) ≡ length files
+pub length-paths_of : (files : List FolderFile) → length (paths_of files) ≡ length files
 length-paths_of [] = refl
 length-paths_of (file ∷ files) = let same = length-paths_of files in omega (arith, same)
 
-pub AreTold-append : (told : Option (List File)) (xs ys : List File) → AreTold told xs → AreTold told ys → AreTold told (xs ++ ys)
+pub AreTold-append : (told : Option (List FolderFile)) (xs ys : List FolderFile) → AreTold told xs → AreTold told ys → AreTold told (xs ++ ys)
 AreTold-append told [] ys p q = q
 AreTold-append told (x ∷ xs) ys p q = (p.0, AreTold-append told xs ys p.1 q)
 
-pub total_bytes-append : (xs ys : List File) → total_bytes (xs ++ ys) ≡ total_bytes xs + total_bytes ys
-total_bytes-append xs ys = sum_by-append (λ (file : File). length file.1) xs ys
+pub total_bytes-append : (xs ys : List FolderFile) → total_bytes (xs ++ ys) ≡ total_bytes xs + total_bytes ys
+total_bytes-append xs ys = sum_by-append (λ (file : FolderFile). length file.1) xs ys
 
 -- ---- one file after the other
 
 -- The paths of the files that were read, and after them the paths that are left, are those that were listed; the files that
 -- were read are told, and this room is left.
-pub record IsReadTo (told : Option (List File)) (paths : List (List ℕ)) (files : List File) (left : List (List ℕ)) (room : ℕ) : Type 0 where
+pub record IsReadTo (told : Option (List FolderFile)) (paths : List (List ℕ)) (files : List FolderFile) (left : List (List ℕ)) (room : ℕ) : Type 0 where
   pub split : paths_of files ++ left ≡ paths
   pub true_to : AreTold told files
   pub whole : total_bytes files + room ≡ 16777216
 
-pub read_none : (told : Option (List File)) (paths : List (List ℕ)) (files : List File) (left : List (List ℕ)) (room : ℕ) → files ≡ [] → left ≡ paths → room ≡ 16777216
+pub read_none : (told : Option (List FolderFile)) (paths : List (List ℕ)) (files : List FolderFile) (left : List (List ℕ)) (room : ℕ) → files ≡ [] → left ≡ paths → room ≡ 16777216
     → IsReadTo told paths files left room
 read_none told paths files left room none all whole = record {
   split = ap (λ f. paths_of f ++ left) none ∙ all;
@@ -82,7 +82,7 @@ read_none told paths files left room none all whole = record {
     whole_room : 0 + room ≡ 16777216
     whole_room = omega (arith, whole)
 
-pub read_more : (told : Option (List File)) (paths : List (List ℕ)) (files new : List File) (path bytes : List ℕ) (left later : List (List ℕ)) (room room' : ℕ)
+pub read_more : (told : Option (List FolderFile)) (paths : List (List ℕ)) (files new : List FolderFile) (path bytes : List ℕ) (left later : List (List ℕ)) (room room' : ℕ)
     → AreInOrder paths → left ≡ path ∷ later → IsReadTo told paths files left room → IsTold told (path, bytes) → length bytes ≤ room → room' ≡ room - length bytes
     → new ≡ put_file path bytes files → IsReadTo told paths new later room'
 read_more told paths files new path bytes left later room room' ordered next so_far there fits less is =
@@ -102,13 +102,13 @@ append_no_paths : (paths : List (List ℕ)) → paths ++ [] ≡ paths
 append_no_paths [] = refl
 append_no_paths (path ∷ paths) = ap (λ rest. path ∷ rest) (append_no_paths paths)
 
-pub read_all : (told : Option (List File)) (paths : List (List ℕ)) (files : List File) (left : List (List ℕ)) (room : ℕ)
+pub read_all : (told : Option (List FolderFile)) (paths : List (List ℕ)) (files : List FolderFile) (left : List (List ℕ)) (room : ℕ)
     → AreInOrder paths → AreListed told paths → left ≡ [] → IsReadTo told paths files left room → IsFolder told files
 read_all told paths files left room ordered listed none so_far =
     let same : paths_of files ≡ paths = sym (append_no_paths (paths_of files)) ∙ ap (λ l. paths_of files ++ l) (sym none) ∙ so_far.split in
     record { ordered = subst AreInOrder (sym same) ordered; listed = subst (AreListed told) (sym same) listed; read = so_far.true_to }
 
-pub read_within : (told : Option (List File)) (paths : List (List ℕ)) (files : List File) (left : List (List ℕ)) (room : ℕ)
+pub read_within : (told : Option (List FolderFile)) (paths : List (List ℕ)) (files : List FolderFile) (left : List (List ℕ)) (room : ℕ)
     → length paths ≤ 4096 → left ≡ [] → IsReadTo told paths files left room → IsWithin files
 read_within told paths files left room few none so_far =
     let same : paths_of files ≡ paths = sym (append_no_paths (paths_of files)) ∙ ap (λ l. paths_of files ++ l) (sym none) ∙ so_far.split in
@@ -117,7 +117,7 @@ read_within told paths files left room few none so_far =
     record { files = omega (arith, count, few); bytes = omega (arith, size) }
 
 -- reading stops at a file
-pub stopped : (cause : Cause) (told : Option (List File)) (paths : List (List ℕ)) (files : List File) (path : List ℕ) (left later : List (List ℕ)) (room before same after : ℕ)
+pub stopped : (cause : Cause) (told : Option (List FolderFile)) (paths : List (List ℕ)) (files : List FolderFile) (path : List ℕ) (left later : List (List ℕ)) (room before same after : ℕ)
     → AreInOrder paths → AreListed told paths → length paths ≤ 4096 → left ≡ path ∷ later → IsReadTo told paths files left room → same ≡ before
     → IsFileUnread cause told path room same after → IsUnread cause told before after
 stopped ReadFault told paths files path left later room before same after ordered listed few next so_far is u = omega (arith, is, u)

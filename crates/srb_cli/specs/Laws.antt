@@ -1,6 +1,6 @@
 -- What is left of a command's ends where the outside tells its bytes, all is within the limits, and nothing failed.
 use Rattle.std.specs.Prelude.{◌≡◌, ◌⊎◌, ℕ, ◌+◌, ◌≤◌, List, length, Some}
-use Rattle.srb_io.specs.Files.{File}
+use Rattle.srb_io.specs.Files.{FolderFile}
 use Rattle.srb_terms.specs.declared.cause.Cause.{Cause}
 use Rattle.srb_terms.specs.declared.cause.Cause.TheVariants.{Done, Errors, NoShutdown, NoMemory}
 use Rattle.srb_text.specs.Limits.{MOST_BYTES}
@@ -37,7 +37,7 @@ IsServed _ = ⊥
 
 -- The files below a folder are told, they are no more than a project may have, and no call on them failed.
 pub record IsListed (dir : List ℕ) (o : Outside) : Type 0 where
-  pub files : List File
+  pub files : List FolderFile
   pub told : o.listing.told dir ≡ Some files
   pub base : Project
   pub folder : IsFolder (Some files) base

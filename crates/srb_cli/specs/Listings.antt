@@ -1,10 +1,10 @@
 -- What the outside tells of files below folders.
 use Rattle.std.specs.Prelude.{◌≡◌, ℕ, List, Option}
-use Rattle.srb_io.specs.Files.{File}
+use Rattle.srb_io.specs.Files.{FolderFile}
 
 -- the files below each folder, by its name, and the counts of failed calls on them before and after the call
 pub record Listing : Type 0 where
-  pub told : List ℕ → Option (List File)
+  pub told : List ℕ → Option (List FolderFile)
   pub failed_before : ℕ
   pub failed_after : ℕ
 

@@ -11,7 +11,7 @@ use Rattle.std.proofs.lemmas.List.Filters.{dedup_is}
 use Rattle.std.proofs.lemmas.List.Kept.{IsStrictlySortedBy-dedup}
 use Rattle.std.proofs.lemmas.List.Sorted.{list_any-IsPermutation, IsPermutation-map}
 use Rattle.std.proofs.lemmas.Slice.Eq.{bytes_eq-Decides}
-use Rattle.srb_io.specs.Files.{IsBeforeEach, AreInOrder, is_among, is_there, ruby_paths, ends_in_rb, File}
+use Rattle.srb_io.specs.Files.{IsBeforeEach, AreInOrder, is_among, is_there, ruby_paths, ends_in_rb, FolderFile}
 
 -- ---- in order
 before_each : {Z : Type 0} (x : String Z) (xs : List (String Z)) → AllByRecursion (λ y. string_cmp x y ≡ Less) xs
@@ -87,7 +87,7 @@ spread true true rest false same = absurd (Rattle.std.proofs.lemmas.Bool.true≢
 spread true false rest false same = refl
 spread false a rest false same = refl
 
-pub among_ruby_paths : (path : List ℕ) (files : List File)
+pub among_ruby_paths : (path : List ℕ) (files : List FolderFile)
     → is_among path (ruby_paths files) ≡ (ends_in_rb path && is_there path files)
 among_ruby_paths path [] = none (ends_in_rb path)
   where

@@ -9,24 +9,24 @@ use Rattle.srb_io.specs.declared.files.FilesEnd.{FilesEnd}
 use Rattle.srb_io.specs.declared.files.FilesEnd.TheVariants.{Failed, NoMemory}
 
 -- a file: its path and its bytes
-abbrev pub File : Type 0
-File = List ℕ × List ℕ
+abbrev pub FolderFile : Type 0
+FolderFile = List ℕ × List ℕ
 
 -- the path ends in `.rb`
 abbrev pub ends_in_rb : List ℕ → Bool
 ends_in_rb path = bytes_eq (drop (length path - 3) path) (codes ".rb")
 
 -- the bytes of the first file at the path
-abbrev pub bytes_at : List ℕ → List File → Option (List ℕ)
+abbrev pub bytes_at : List ℕ → List FolderFile → Option (List ℕ)
 bytes_at path [] = None
 bytes_at path (file ∷ files) = if bytes_eq path file.0 then Some file.1 else bytes_at path files
 
 -- some file stands at the path
-abbrev pub is_there : List ℕ → List File → Bool
+abbrev pub is_there : List ℕ → List FolderFile → Bool
 is_there path files = list_any (λ file. bytes_eq path file.0) files
 
 -- the paths of the files that end in `.rb`, in the order of the files
-abbrev pub ruby_paths : List File → List (List ℕ)
+abbrev pub ruby_paths : List FolderFile → List (List ℕ)
 ruby_paths [] = []
 ruby_paths (file ∷ files) = if ends_in_rb file.0 then file.0 ∷ ruby_paths files else ruby_paths files
 
@@ -45,13 +45,13 @@ AreInOrder [] = ⊤
 AreInOrder (p ∷ ps) = IsBeforeEach p ps × AreInOrder ps
 
 -- the paths are just those of the files that end in `.rb`
-abbrev pub AreListed : Option (List File) → List (List ℕ) → Type 0
+abbrev pub AreListed : Option (List FolderFile) → List (List ℕ) → Type 0
 AreListed None paths = ⊤
 AreListed (Some files) paths =
     (path : List ℕ) → is_among path paths ≡ (ends_in_rb path && is_there path files)
 
 -- the bytes are the first `most` of the file at the path, which is there
-abbrev pub AreFirst : Option (List File) → (path : List ℕ) → (most : ℕ) → List ℕ → Type 0
+abbrev pub AreFirst : Option (List FolderFile) → (path : List ℕ) → (most : ℕ) → List ℕ → Type 0
 AreFirst None path most bytes = ⊤
 AreFirst (Some files) path most bytes = (all : List ℕ) × (bytes_at path files ≡ Some all) × (bytes ≡ take most all)
 

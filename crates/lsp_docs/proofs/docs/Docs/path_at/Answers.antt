@@ -5,7 +5,7 @@ use Rattle.lsp_docs.specs.Documents.{Documents}
 use Rattle.lsp_docs.specs.Projects.{paths_of}
 use Rattle.lsp_docs.proofs.RowLemmas.{length-project_of, path_at}
 use Rattle.lsp_docs.proofs.RowsHold.{row_at, get_same}
-use Rattle.lsp_docs.proofs.docs.Docs.path.Goals as goal
+use Rattle.lsp_docs.proofs.docs.Docs.path_at.Goals as goal
 
 pub offset_bounds-as_slice-index : goal.offset_bounds-as_slice-index
 offset_bounds-as_slice-index c =
