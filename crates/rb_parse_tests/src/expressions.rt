@@ -109,7 +109,7 @@ const OPERATORS: &[(&str, &str)] = &[
         "a - b - c",
         "Binary(Minus,(Binary(Minus,(Name(a)),(Name(b)))),(Name(c)))",
     ),
-    // `ay` and `bZ` are words of one slot of the lexer's
+    // `ay` and `bZ` have one slot among the words that the lexer keeps
     (
         "ay - bZ - ay - bZ",
         "Binary(Minus,(Binary(Minus,(Binary(Minus,(Name(ay)),(Name(bZ)))),(Name(ay)))),(Name(bZ)))",
