@@ -22,13 +22,19 @@ const CHUNK: usize = 65536;
 pub struct DirFiles<'a, R: System + AllocGlobal + Clone + Drop> {
     rt: &'a R,
     faults: u64,
+    // What a read puts bytes into: empty before the first one, else `CHUNK` bytes.
+    chunk: Vec<u8>,
 }
 
 impl<'a, R: System + AllocGlobal + Clone + Drop> DirFiles<'a, R> {
     pub fn new(rt: &'a R) -> DirFiles<'a, R>
         ensures { ⟦<DirFiles<'a, R> as Files>⟧.faults result ≡ 0 }
     {
-        DirFiles { rt, faults: 0 }
+        DirFiles {
+            rt,
+            faults: 0,
+            chunk: Vec::new(rt.alloc()),
+        }
     }
 }
 
@@ -54,7 +60,7 @@ impl<'a, R: System + AllocGlobal + Clone + Drop> Files for DirFiles<'a, R> {
         path: &str,
         most: u64,
     ) -> Result<Vec<u8>, FilesEnd> {
-        match first_bytes(self.rt, alloc, dir, path, most) {
+        match first_bytes(self.rt, alloc, dir, path, most, &mut self.chunk) {
             Err(FilesEnd::Failed) => {
                 self.faults += 1;
                 Err(FilesEnd::Failed)
@@ -167,6 +173,7 @@ fn first_bytes<R: System + AllocGlobal + Clone + Drop>(
     dir: &str,
     path: &str,
     most: u64,
+    chunk: &mut Vec<u8>,
 ) -> Result<Vec<u8>, FilesEnd>
     ensures { IfOk result (λ bytes. vec_len bytes ≤ most) }
 {
@@ -175,7 +182,9 @@ fn first_bytes<R: System + AllocGlobal + Clone + Drop>(
         Ok(file) => file,
         Err(error) => return Err(end_of(error)),
     };
-    let mut chunk = vec![in alloc; 0u8; CHUNK]?;
+    if chunk.is_empty() {
+        *chunk = vec![in alloc; 0u8; CHUNK]?;
+    }
     let mut bytes = Vec::new(alloc);
     for _ in 0..u64::MAX {
         let room = (chunk.len() as u64).min(most.saturating_sub(bytes.len() as u64)) as usize;
