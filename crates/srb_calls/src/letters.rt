@@ -19,6 +19,16 @@ fn class(alloc: Global, name: &str) -> Result<Ty, NoMemory>
     Ok(Ty::Class(Name::from_str(alloc, name)?))
 }
 
+// The class of a name, which shares that of a type where the type is this class.
+fn class_near(alloc: Global, name: &str, near: &Ty) -> Result<Ty, NoMemory>
+    ensures { IfOk result (λ t. t ≡ ty.Class name.now) }
+{
+    match near {
+        Ty::Class(c) if c.as_str() == name => near.copied(),
+        _ => class(alloc, name),
+    }
+}
+
 // The elements of an array.
 #[tactic(auto, unfolding(crate::specs::Letters::element_of))]
 fn element(part: &Ty) -> Result<Ty, NoMemory>
@@ -52,27 +62,28 @@ fn value(part: &Ty) -> Result<Ty, NoMemory>
     }
 }
 
-// The number that arithmetic with an argument of this type gives.
-fn number_by(alloc: Global, w: &World, t: &Ty) -> Result<Ty, NoMemory>
+// The number that arithmetic of a receiver with an argument of this type gives. It takes no memory where they are `Integer` and `Integer` or
+// `Float`.
+fn number_by(alloc: Global, w: &World, part: &Ty, t: &Ty) -> Result<Ty, NoMemory>
     ensures { IfOk result (λ u. u ≡ spec.number_by (lineage_at w.now) t.now) }
 {
-    let integer = class(alloc, "Integer")?;
+    let integer = class_near(alloc, "Integer", part)?;
     if is_sub(w, t, &integer) {
         return Ok(integer);
     }
-    let float = class(alloc, "Float")?;
+    let float = class_near(alloc, "Float", t)?;
     if is_sub(w, t, &float) {
         return Ok(float);
     }
     class(alloc, "Numeric")
 }
 
-fn number(alloc: Global, w: &World, positional: &[Arg]) -> Result<Ty, NoMemory>
+fn number(alloc: Global, w: &World, part: &Ty, positional: &[Arg]) -> Result<Ty, NoMemory>
     ensures { IfOk result (λ t. t ≡ spec.number_of (lineage_at w.now) positional.now) }
 {
     match positional {
         [] => class(alloc, "Numeric"),
-        [first, ..] => number_by(alloc, w, &first.ty),
+        [first, ..] => number_by(alloc, w, part, &first.ty),
     }
 }
 
@@ -104,7 +115,7 @@ fn letter(
     } else if text == "%B" {
         block.copied()
     } else if text == "%N" {
-        number(alloc, w, positional)
+        number(alloc, w, part, positional)
     } else if text == "%self" {
         part.copied()
     } else if text == "%C" {

@@ -1,5 +1,5 @@
 // Calls in small tables, written by hand.
-use crate::{Arg, Args, KeyArg, Recv, call};
+use crate::{Arg, Args, GivenBlock, KeyArg, Recv, call};
 use indexmap::IndexMap;
 use srb_terms::{
     Boxed, Items, Kind, Method, Name, Names, NoMemory, Param, ParamKind, Span, Ty, World,
@@ -198,5 +198,160 @@ fn each_part_answers_by_itself(rt: HostRuntime) -> Result<(), NoMemory> {
     assert_eq!(rt; text.as_str(), "call of x on an untyped receiver;T.untyped");
     let text = told_of_x(alloc, Ty::Never)?;
     assert_eq!(rt; text.as_str(), "T.noreturn");
+    Ok(())
+}
+
+// A table in which `m`, a method of a class with this name, takes one argument of any type and answers this.
+fn world_with(alloc: Global, owner: &str, answer: Ty) -> Result<World, NoMemory> {
+    let mut params = Items::new(alloc);
+    params.push(Param {
+        name: name(alloc, "a")?,
+        kind: ParamKind::Required,
+        ty: Ty::Untyped,
+    })?;
+    let mut world = world_of(alloc, owner, "m", params, answer)?;
+    for c in ["Array", "Hash", "Float", "NilClass", "Numeric"] {
+        add(alloc, &mut world, c)?;
+    }
+    Ok(world)
+}
+
+fn array(alloc: Global, element: Ty) -> Result<Ty, NoMemory> {
+    Ok(Ty::Arr(Boxed::new(alloc, element)?))
+}
+
+fn nilable(alloc: Global, text: &str) -> Result<Ty, NoMemory> {
+    let mut parts = Items::new(alloc);
+    parts.push(class(alloc, text)?)?;
+    parts.push(class(alloc, "NilClass")?)?;
+    Ok(Ty::Any(Boxed::new(alloc, parts)?))
+}
+
+fn hash(alloc: Global, key: Ty, value: Ty) -> Result<Ty, NoMemory> {
+    let key = Boxed::new(alloc, key)?;
+    Ok(Ty::Hsh(key, Boxed::new(alloc, value)?))
+}
+
+// A receiver of each kind.
+fn receiver(alloc: Global, owner: &str) -> Result<Ty, NoMemory> {
+    if owner == "Array" {
+        array(alloc, nilable(alloc, "Integer")?)
+    } else if owner == "Hash" {
+        hash(alloc, class(alloc, "String")?, class(alloc, "Integer")?)
+    } else {
+        class(alloc, owner)
+    }
+}
+
+#[test]
+fn letters_stand_for_types(rt: HostRuntime) -> Result<(), NoMemory> {
+    let alloc = rt.alloc();
+    for (owner, letter, argument, want) in [
+        ("Array", "%E", "String", "T.nilable(Integer)"),
+        ("Array", "%C", "String", "Integer"),
+        ("Array", "%self", "String", "T::Array[T.nilable(Integer)]"),
+        ("Hash", "%K", "String", "String"),
+        ("Hash", "%V", "String", "Integer"),
+        ("Integer", "%N", "Integer", "Integer"),
+        ("Integer", "%N", "Float", "Float"),
+        ("Integer", "%N", "String", "Numeric"),
+        ("Float", "%N", "Integer", "Integer"),
+        ("String", "%self", "String", "String"),
+        ("String", "%B", "String", "T.untyped"),
+        ("String", "Float", "String", "Float"),
+    ] {
+        let world = world_with(alloc, owner, class(alloc, letter)?)?;
+        let on = recv(alloc, receiver(alloc, owner)?, "m")?;
+        let text = told(alloc, &world, &on, &given(alloc, 1, argument, "", "")?)?;
+        assert_eq!(rt; text.as_str(), want);
+    }
+    Ok(())
+}
+
+#[test]
+fn letters_stand_for_types_inside_others(rt: HostRuntime) -> Result<(), NoMemory> {
+    let alloc = rt.alloc();
+    let answer = hash(
+        alloc,
+        class(alloc, "%K")?,
+        array(alloc, class(alloc, "%V")?)?,
+    )?;
+    let world = world_with(alloc, "Hash", answer)?;
+    let on = recv(alloc, receiver(alloc, "Hash")?, "m")?;
+    let text = told(alloc, &world, &on, &given(alloc, 1, "Float", "", "")?)?;
+    assert_eq!(rt; text.as_str(), "T::Hash[String, T::Array[Integer]]");
+    Ok(())
+}
+
+#[test]
+fn a_block_answers_for_its_letter(rt: HostRuntime) -> Result<(), NoMemory> {
+    let alloc = rt.alloc();
+    let world = world_with(alloc, "Array", array(alloc, class(alloc, "%B")?)?)?;
+    let on = recv(alloc, receiver(alloc, "Array")?, "m")?;
+    let mut given = given(alloc, 1, "Float", "", "")?;
+    given.block = Some(GivenBlock {
+        names: 1,
+        ty: class(alloc, "String")?,
+    });
+    let text = told(alloc, &world, &on, &given)?;
+    assert_eq!(rt; text.as_str(), "T::Array[String]");
+    Ok(())
+}
+
+// What a block with so many names is given by a method that gives an element and an `Integer`, as it is shown.
+fn given_to_block(alloc: Global, names: u32) -> Result<String, NoMemory> {
+    let mut params = Items::new(alloc);
+    push_param(alloc, &mut params, "%1", ParamKind::Block, "%E")?;
+    push_param(alloc, &mut params, "%2", ParamKind::Block, "Integer")?;
+    let mut world = world_of(alloc, "Array", "m", params, Ty::Untyped)?;
+    add(alloc, &mut world, "Array")?;
+    let on = recv(alloc, array(alloc, class(alloc, "String")?)?, "m")?;
+    let mut given = args(alloc);
+    given.block = Some(GivenBlock {
+        names,
+        ty: Ty::Untyped,
+    });
+    let end = call(alloc, &world, &on, &given)?;
+    let mut text = String::new(alloc);
+    for ty in end.block.as_slice() {
+        text.push_str(show(alloc, ty)?.as_str())?;
+        text.push_str(";")?;
+    }
+    Ok(text)
+}
+
+#[test]
+fn blocks_are_given_types(rt: HostRuntime) -> Result<(), NoMemory> {
+    let alloc = rt.alloc();
+    for (names, want) in [
+        (0, ""),
+        (1, "String;"),
+        (2, "String;Integer;"),
+        (3, "T.untyped;T.untyped;T.untyped;"),
+    ] {
+        assert_eq!(rt; given_to_block(alloc, names)?.as_str(), want);
+    }
+    Ok(())
+}
+
+#[test]
+fn new_takes_what_initialize_takes(rt: HostRuntime) -> Result<(), NoMemory> {
+    let alloc = rt.alloc();
+    let mut params = Items::new(alloc);
+    push_param(alloc, &mut params, "a", ParamKind::Required, "Integer")?;
+    let world = world_of(alloc, "A", "initialize", params, class(alloc, "String")?)?;
+    let on = recv(alloc, Ty::Meta(name(alloc, "A")?), "new")?;
+    for (places, place, want) in [
+        (1, "Integer", "A"),
+        (
+            1,
+            "String",
+            "argument a of new expects Integer, found String;A",
+        ),
+        (0, "", "too few arguments for new;A"),
+    ] {
+        let text = told(alloc, &world, &on, &given(alloc, places, place, "", "")?)?;
+        assert_eq!(rt; text.as_str(), want);
+    }
     Ok(())
 }
