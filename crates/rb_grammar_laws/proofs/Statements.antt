@@ -14,6 +14,7 @@ use Rattle.rb_tree.specs.Nodes as tree
 use Rattle.rb_tree.specs.declared.token.Token.{Token}
 use Rattle.rb_tree.specs.declared.token.Shape.TheVariants as shape
 use Rattle.rb_expr.specs.declared.form.Form.{Form}
+use Rattle.rb_expr.specs.declared.form.Form.TheVariants as form
 use Rattle.rb_expr.specs.Reading.{Outcome, Parser, sees, peek, start_of, skip_separators}
 use Rattle.rb_expr.specs.Shapes.{begins_simple, begins_statement, begins_value, has_value, jump_of, modifier_of}
 use Rattle.rb_expr.specs.Operators as operators
@@ -94,21 +95,26 @@ a-modifier-after : (s : Tree) (m : Token) (ms : List Token) (word : Modifier) �
 unfolding modifier_after
 a-modifier-after s m ms word row h = ap (allowed s) (a-modifier m ms word row) ∙ ap (λ b. if b then Some word else None) (may word s h)
 
+-- a modifier ends a simple statement
+pub modifier-ends : (free : Bool) (m : Token) (ms : List Token) (word : Modifier) → IsRow MODIFIER_WORDS (shape_of m.kind) word → Ends SIMPLE_ENDS free (m ∷ ms)
+unfolding same_shape
+modifier-ends free m ms word row =
+    let h = by-row MODIFIER_WORDS (λ s w. (is_in SIMPLE_ENDS s ≡ true) × (same_shape s shape.Do ≡ false)) ((refl, refl), ((refl, refl), ((refl, refl), ((refl, refl), tt)))) _ _ row in
+    (in-list SIMPLE_ENDS _ h.0, λ f is. let e = h.1 in let g : false ≡ true = sym e ∙ shown shape.Do m ms is in absurd (cc))
+
 modified-ends : (free : Bool) (s t : Tree) (xs ys : List Token) → DerivesModified free s t xs ys → Ends STATEMENT_ENDS free ys → Ends SIMPLE_ENDS free xs
 unfolding same_shape
 modified-ends free s t xs ys (Unmodified _ _ _) ends = ends-wider STATEMENT_ENDS SIMPLE_ENDS refl free ys ends
-modified-ends free s t xs ys (Modified _ m word _ c _ us ps _ row allows d e) ends =
-    let h = by-row MODIFIER_WORDS (λ s w. (is_in SIMPLE_ENDS s ≡ true) × (same_shape s shape.Do ≡ false)) ((refl, refl), ((refl, refl), ((refl, refl), ((refl, refl), tt)))) _ _ row in
-    (in-list SIMPLE_ENDS _ h.0, λ f is. let e = h.1 in let g : false ≡ true = sym e ∙ shown shape.Do m us is in absurd (cc))
+modified-ends free s t xs ys (Modified _ m word _ c _ us ps _ row allows d e) ends = modifier-ends free m us word row
 
 -- ---- rows of statements
 
-begun : (xs : List Token) → StartsWith SIMPLE xs → begins_statement xs ≡ true
+pub begun : (xs : List Token) → StartsWith SIMPLE xs → begins_statement xs ≡ true
 unfolding begins_statement
 begun [] h = absurd h
 begun (t ∷ ts) h = each begins_simple SIMPLE refl _ h
 
-over : (free : Bool) (xs : List Token) → Ends BODY_ENDS free xs → begins_statement xs ≡ false
+pub over : (free : Bool) (xs : List Token) → Ends BODY_ENDS free xs → begins_statement xs ≡ false
 unfolding begins_statement
 over free [] h = refl
 over free (t ∷ ts) h = not-false _ (each (λ c. not (begins_simple c)) BODY_ENDS refl _ h.0)
@@ -119,19 +125,19 @@ gap-statement-ends free xs ys (Closed _) h = ends-wider BODY_ENDS STATEMENT_ENDS
 gap-statement-ends free xs ys (Wide t us _ is g) h = ends-by STATEMENT_ENDS shape.Separator refl refl free t us is
 
 -- A body of statements is read up to the second list, where the last of them ends before the first.
-record Over (free : Bool) (rs ys : List Token) : Type 0 where
-  gap : Gap rs ys
-  follows : Ends STATEMENT_ENDS free rs
-  over : begins_statement ys ≡ false
-  separated : sees shape.Separator ys ≡ false
-  divided : sees shape.Rescue rs ≡ false
+pub record Over (free : Bool) (rs ys : List Token) : Type 0 where
+  pub gap : Gap rs ys
+  pub follows : Ends STATEMENT_ENDS free rs
+  pub over : begins_statement ys ≡ false
+  pub separated : sees shape.Separator ys ≡ false
+  pub divided : sees shape.Rescue rs ≡ false
 
 divided-by : (free : Bool) (rs ys : List Token) → Gap rs ys → Ends BODY_ENDS free ys → sees shape.Rescue rs ≡ false
 unfolding same_shape
 divided-by free rs ys (Closed _) h = ends-unseen shape.Rescue BODY_ENDS refl free ys h
 divided-by free rs ys (Wide t us _ is g) h = other shape.Rescue shape.Separator t us is refl
 
-over-ends : (free : Bool) (rs ys : List Token) → Gap rs ys → Ends BODY_ENDS free ys → Over free rs ys
+pub over-ends : (free : Bool) (rs ys : List Token) → Gap rs ys → Ends BODY_ENDS free ys → Over free rs ys
 unfolding same_shape
 over-ends free rs ys g h = record { gap = g; follows = gap-statement-ends free rs ys g h; over = over free ys h; separated = ends-unseen shape.Separator BODY_ENDS refl free ys h; divided = divided-by free rs ys g h }
 
@@ -140,7 +146,7 @@ gap-before : (rs : List Token) (t : Token) (ys : List Token) → Gap rs (t ∷ y
 gap-before rs t ys (Closed _) is = (t, ys, refl, is, Wide _ _ _ is (Closed _))
 gap-before rs t ys (Wide u us _ is2 g) is = (u, us, refl, is2, Wide _ _ _ is2 (gap-before us t ys g is).4)
 
-no-statement : (k : Token) (ys : List Token) → Is shape.Rescue k → begins_statement (k ∷ ys) ≡ false
+pub no-statement : (k : Token) (ys : List Token) → Is shape.Rescue k → begins_statement (k ∷ ys) ≡ false
 unfolding begins_statement
 no-statement k ys is = ap begins_simple is
 
@@ -183,38 +189,70 @@ parted-by before ps k qs (AfterNothing _) = inl refl
 parted-by before ps k qs (AfterSeparator _ t _ is) = inr (t, is, refl)
 
 -- statements end before a separator, where a `rescue` follows
-over-parted : (free : Bool) (s : Tree) (ss : List Tree) (rs ps : List Token) (k : Token) (qs : List Token) → Gap rs ps → Parted (body_of (s ∷ ss)) ps (k ∷ qs) → Is shape.Rescue k → Over free rs (k ∷ qs)
+pub over-parted : (free : Bool) (s : Tree) (ss : List Tree) (rs ps : List Token) (k : Token) (qs : List Token) → Gap rs ps → Parted (body_of (s ∷ ss)) ps (k ∷ qs) → Is shape.Rescue k → Over free rs (k ∷ qs)
 over-parted free s ss rs ps k qs g parted is = ⊎_elim (λ e. absurd (not-empty s ss e)) (λ h. over-rescue free rs h.0 k qs (subst (λ us. Gap rs us) h.2 g) h.1 is) (parted-by (body_of (s ∷ ss)) ps k qs parted)
 
+-- separators before a `rescue` are passed over
+pub rescue-gap : (xs ps : List Token) (before : Tree) (k : Token) (qs : List Token) → Gap xs ps → Parted before ps (k ∷ qs) → Gap xs (k ∷ qs)
+rescue-gap xs ps before k qs g (AfterNothing _) = g
+rescue-gap xs ps before k qs g (AfterSeparator _ t _ is) = (gap-before xs t (k ∷ qs) g is).4
+
 module _ (nested : Form → Bool → Parser Tree) (turns : ℕ) (ih : Complete turns nested) where
-  pub simple-read : (constants free : Bool) (t : Tree) (xs ys : List Token) → DerivesSimple constants free t xs ys → Ends SIMPLE_ENDS free ys → length xs < turns → Reads (simple nested turns free constants) t xs ys
+  -- a value that is read
+  pub valued-read : (constants free : Bool) (t : Tree) (xs ys : List Token) → StartsWith TERMS xs → Reads (value nested turns free constants) t xs ys → Reads (simple nested turns free constants) t xs ys
+  unfolding simple
+  valued-read constants free t xs ys begins r = (ap (λ o. simple_by nested turns free constants o xs) (no-jump xs begins) ∙ r.0, r.1)
+
+  -- a jump without a value
+  pub jump-read : (constants free : Bool) (j : Token) (word : Jump) (ys : List Token) → IsRow JUMP_WORDS (shape_of j.kind) word → has_value ys ≡ false → Reads (simple nested turns free constants) (tree.Jump word None j.span) (j ∷ ys) ys
   unfolding simple jump jump_value
-  simple-read constants free t xs ys (Valued _ _ _ _ _ d) ends fits =
-      let r = value-read nested turns ih constants free t xs ys d ends fits in
-      (ap (λ o. simple_by nested turns free constants o xs) (no-jump xs (value-begins constants free t xs ys d)) ∙ r.0, r.1)
-  simple-read constants free t xs ys (Jumps _ _ j word _ row) ends fits =
-      (ap (λ o. simple_by nested turns free constants o (j ∷ ys)) (a-jump j ys word row) ∙ on _ (passed _ _ (no-value free ys ends) refl) refl, past-token j (within-self _))
-  simple-read constants free t xs ys (JumpsWith _ _ j word v us _ row non d) ends fits =
-      let r = ih.value free v us ys fits d ends in
-      (ap (λ o. simple_by nested turns free constants o (j ∷ us)) (a-jump j us word row) ∙ on _ (taken _ _ (a-value us (value-begins false free v us ys d) non) (on _ r.0 refl)) refl, past-token j (past-within r.1))
+  jump-read constants free j word ys row none = (ap (λ o. simple_by nested turns free constants o (j ∷ ys)) (a-jump j ys word row) ∙ on _ (passed _ _ none refl) refl, past-token j (within-self _))
+
+  -- one with a value that is read
+  pub jump-with-read : (constants free : Bool) (j : Token) (word : Jump) (v : Tree) (us ys : List Token) → IsRow JUMP_WORDS (shape_of j.kind) word → ¬ StartsWith MODIFIERS us → StartsWith TERMS us → Reads (nested form.Value free) v us ys →
+      Reads (simple nested turns free constants) (tree.Jump word (Some v) (across j.span (span_of v))) (j ∷ us) ys
+  unfolding simple jump jump_value
+  jump-with-read constants free j word v us ys row non begins r =
+      (ap (λ o. simple_by nested turns free constants o (j ∷ us)) (a-jump j us word row) ∙ on _ (taken _ _ (a-value us begins non) (on _ r.0 refl)) refl, past-token j (past-within r.1))
+
+  pub simple-read : (constants free : Bool) (t : Tree) (xs ys : List Token) → DerivesSimple constants free t xs ys → Ends SIMPLE_ENDS free ys → length xs < turns → Reads (simple nested turns free constants) t xs ys
+  simple-read constants free t xs ys (Valued _ _ _ _ _ d) ends fits = valued-read constants free t xs ys (value-begins constants free t xs ys d) (value-read nested turns ih constants free t xs ys d ends fits)
+  simple-read constants free t xs ys (Jumps _ _ j word _ row) ends fits = jump-read constants free j word ys row (no-value free ys ends)
+  simple-read constants free t xs ys (JumpsWith _ _ j word v us _ row non d) ends fits = jump-with-read constants free j word v us ys row non (value-begins false free v us ys d) (ih.value free v us ys fits d ends)
+
+  -- a modifier, whose condition is read, and others
+  pub modified-read : (free : Bool) (m : Token) (word : Modifier) (s c t : Tree) (us ps ys : List Token) (n : ℕ) → IsRow MODIFIER_WORDS (shape_of m.kind) word → MayModify word s → Reads (nested form.Simple free) c us ps →
+      ReadsSome (modifiers_from nested turns free n (tree.Modified s word c (across (span_of s) (span_of c)))) t ps ys → ReadsSome (modifiers_from nested turns free (suc n) s) t (m ∷ us) ys
+  unfolding modifiers_from modified operators.across
+  modified-read free m word s c t us ps ys n row allows r l =
+      (ap (λ o. modifiers_by nested turns free (modifiers_from nested turns free n) s o (m ∷ us)) (a-modifier-after s m us word row allows) ∙ on _ (on _ r.0 refl) l.0, within-token m (within-more (past-within r.1) l.1))
+
+  -- no modifier is next
+  pub unmodified-read : (free : Bool) (s : Tree) (ys : List Token) (n : ℕ) → length ys < n → modifier_after s (peek ys) ≡ None → ReadsSome (modifiers_from nested turns free n s) s ys ys
+  unfolding modifiers_from
+  unmodified-read free s ys zero less none = absurd (let h : ⊥ = omega arith in h)
+  unmodified-read free s ys (suc n) less none = (ap (λ o. modifiers_by nested turns free (modifiers_from nested turns free n) s o ys) none, within-self _)
 
   modifiers-read : (free : Bool) (s t : Tree) (xs ys : List Token) → DerivesModified free s t xs ys → Ends STATEMENT_ENDS free ys → (n : ℕ) → length xs < n → length xs < turns → ReadsSome (modifiers_from nested turns free n s) t xs ys
-  unfolding modifiers_from modified operators.across
   modifiers-read free s t xs ys d ends zero less fits = absurd (let h : ⊥ = omega arith in h)
-  modifiers-read free s t xs ys (Unmodified _ _ _) ends (suc n) less fits = (ap (λ o. modifiers_by nested turns free (modifiers_from nested turns free n) s o ys) (no-modifier-after s free ys ends), within-self _)
+  modifiers-read free s t xs ys (Unmodified _ _ _) ends (suc n) less fits = unmodified-read free s ys (suc n) less (no-modifier-after s free ys ends)
   modifiers-read free s t xs ys (Modified _ m word _ c _ us ps _ row allows d e) ends (suc n) less fits =
       let r = ih.simple free c us ps fits d (modified-ends free _ t ps ys e ends) in
       let short = past-length r.1 in
-      let l = modifiers-read free (tree.Modified s word c (across (span_of s) (span_of c))) t ps ys e ends n (let h : length ps < n = omega arith in h) (let h : length ps < turns = omega arith in h) in
-      (ap (λ o. modifiers_by nested turns free (modifiers_from nested turns free n) s o (m ∷ us)) (a-modifier-after s m us word row allows) ∙ on _ (on _ r.0 refl) l.0, within-token m (within-more (past-within r.1) l.1))
+      modified-read free m word s c t us ps ys n row allows r (modifiers-read free (tree.Modified s word c (across (span_of s) (span_of c))) t ps ys e ends n (let h : length ps < n = omega arith in h) (let h : length ps < turns = omega arith in h))
+
+  -- a simple statement that is read, and its modifiers
+  pub both-read : (constants free : Bool) (s t : Tree) (xs ps ys : List Token) → length xs < turns → Reads (simple nested turns free constants) s xs ps → (length ps < turns → ReadsSome (modifiers_from nested turns free turns s) t ps ys) →
+      Reads (statement nested turns free constants) t xs ys
+  unfolding statement modifiers
+  both-read constants free s t xs ps ys fits r more =
+      let short = past-length r.1 in
+      let l = more (let h : length ps < turns = omega arith in h) in
+      (on _ r.0 l.0, past-more r.1 l.1)
 
   pub simply-read : (constants free : Bool) (s t : Tree) (xs ps ys : List Token) → DerivesSimple constants free s xs ps → DerivesModified free s t ps ys → Ends STATEMENT_ENDS free ys → length xs < turns → Reads (statement nested turns free constants) t xs ys
-  unfolding statement modifiers
   simply-read constants free s t xs ps ys d m ends fits =
-      let r = simple-read constants free s xs ps d (modified-ends free s t ps ys m ends) fits in
-      let short = past-length r.1 in
-      let l = modifiers-read free s t ps ys m ends turns (let h : length ps < turns = omega arith in h) (let h : length ps < turns = omega arith in h) in
-      (on _ r.0 l.0, past-more r.1 l.1)
+      both-read constants free s t xs ps ys fits (simple-read constants free s xs ps d (modified-ends free s t ps ys m ends) fits) (λ less. modifiers-read free s t ps ys m ends turns less less)
 
   statement-read : (free : Bool) (t : Tree) (xs ys : List Token) → DerivesStatement Inside free t xs ys → Ends STATEMENT_ENDS free ys → length xs < turns → Reads (statement nested turns free false) t xs ys
   statement-read free t xs ys (Declared _ _ d _ _ is h) ends fits = absurd (let e : false ≡ true = is in cc)
@@ -308,11 +346,6 @@ module _ (nested : Form → Bool → Parser Tree) (turns : ℕ) (ih : Complete t
   unfolding same_shape
   body-read sounds free t xs ys (NoStatement _ _ _ _ g) ends fits = none-read free xs ys g (over free ys ends) (ends-unseen shape.Separator BODY_ENDS refl free ys ends) fits
   body-read sounds free t xs ys (Statements _ _ s ss _ ps qs rs _ g d more end) ends fits = some-read sounds free s ss xs ps qs rs ys g d more (over-ends free rs ys end ends) fits
-
-  -- separators before a `rescue` are passed over
-  rescue-gap : (xs ps : List Token) (before : Tree) (k : Token) (qs : List Token) → Gap xs ps → Parted before ps (k ∷ qs) → Gap xs (k ∷ qs)
-  rescue-gap xs ps before k qs g (AfterNothing _) = g
-  rescue-gap xs ps before k qs g (AfterSeparator _ t _ is) = (gap-before xs t (k ∷ qs) g is).4
 
   -- up to a `rescue`
   pub rescued-read : (sounds : Sound nested) (free : Bool) (t : Tree) (xs ps qs : List Token) (k : Token) → DerivesBody Inside free t xs ps → Parted t ps (k ∷ qs) → Is shape.Rescue k → length xs < turns → ReadsSome (spec.body nested turns free false) t xs (k ∷ qs)

@@ -1,5 +1,5 @@
 -- Assignments, commands and terms that derive are read.
-use Rattle.std.proofs.Common.{◌≡◌, ℕ, suc, ◌<◌, Bool, true, false, not, ◌||◌, is_some, if◌then◌else◌, List, [], ◌∷◌, ◌++◌, length, Option, Some, None, Ok, ◌⊎◌, inl, refl, sym, ap, ◌∙◌, arith}
+use Rattle.std.proofs.Common.{◌≡◌, ℕ, suc, ◌<◌, Bool, true, false, not, ◌&&◌, ◌||◌, is_some, if◌then◌else◌, List, [], ◌∷◌, ◌++◌, length, Option, Some, None, Ok, ◌⊎◌, inl, refl, sym, ap, ◌∙◌, arith}
 use Rattle.srb_terms.specs.declared.span.Span.{Span}
 use Rattle.rb_tree.specs.Tokens.{shape_of, same_shape}
 use Rattle.rb_tree.specs.Trees.{span_of}
@@ -20,11 +20,12 @@ use Rattle.rb_tree.specs.declared.token.Token.{Token}
 use Rattle.rb_tree.specs.declared.token.Shape.{Shape}
 use Rattle.rb_tree.specs.declared.token.Shape.TheVariants as shape
 use Rattle.rb_expr.specs.declared.form.Form.{Form}
+use Rattle.rb_expr.specs.declared.form.Form.TheVariants as form
 use Rattle.rb_expr.specs.declared.ending.Ending.{Ending}
 use Rattle.rb_expr.specs.declared.ending.Ending.TheVariants as ending
 use Rattle.rb_expr.specs.declared.ending.Follower.{Follower}
 use Rattle.rb_expr.specs.declared.ending.Follower.TheVariants as follower
-use Rattle.rb_expr.specs.Reading.{Parser, peek}
+use Rattle.rb_expr.specs.Reading.{Parser, peek, sees}
 use Rattle.rb_expr.specs.Lists.{end_with, end_of_argument}
 use Rattle.rb_expr.specs.Shapes.{has_prefix, prefix_of}
 use Rattle.rb_expr.specs.Operands.{post}
@@ -225,13 +226,12 @@ module _ (nested : Form → Bool → Parser Tree) (turns : ℕ) (ih : Complete t
   followed-as constants free may first xs ps f t ys u e h = passed _ _ u.front (on _ u.reads (ap (λ f. followed_by nested turns free first f ps) e ∙ h))
 
   command-read : (free : Bool) (callee : Tree) (given : List (Argument Tree)) (b : Option (Block Tree)) (ps qs ys : List Token) → DerivesArguments false false given ps qs → AreOrdered given → DerivesDo free b qs ys → (b ≡ None ⊎ HasNoBlock given) →
-      Ends SIMPLE_ENDS free ys → suc (length ps) < turns → Reads (command nested turns free callee) (tree.Command callee given b (across (span_of callee) (block_or (span_of_arguments (span_of callee) given) b))) ps ys
+      Ends SIMPLE_ENDS false qs → (free && sees shape.Do ys) ≡ false → suc (length ps) < turns → Reads (command nested turns free callee) (tree.Command callee given b (across (span_of callee) (block_or (span_of_arguments (span_of callee) given) b))) ps ys
   unfolding command same_shape
-  command-read free callee given b ps qs ys d ordered h leaves ends fits =
-      let e = do-ends free b qs ys h ends in
-      let r = bare-read nested turns ih free given ps qs d ordered (ends-wider SIMPLE_ENDS TERM_ENDS refl false qs e) (ends-unseen shape.Comma SIMPLE_ENDS refl false qs e) fits in
+  command-read free callee given b ps qs ys d ordered h leaves ends none fits =
+      let r = bare-read nested turns ih free given ps qs d ordered (ends-wider SIMPLE_ENDS TERM_ENDS refl false qs ends) (ends-unseen shape.Comma SIMPLE_ENDS refl false qs ends) fits in
       let short = past-length r.1 in
-      let l = command-block-read nested turns ih free given b qs ys h leaves (no-do SIMPLE_ENDS free ys ends) (let h : length qs < turns = omega arith in h) in
+      let l = command-block-read nested turns ih free given b qs ys h leaves none (let h : length qs < turns = omega arith in h) in
       (on _ r.0 (on _ l.0 (ap (λ end. Ok (tree.Command callee given b (record { start = (span_of callee).start; end = end }), ys)) (command-end (span_of callee) given b (arguments-some false false given ps qs d)))), past-more r.1 l.1)
 
   term-value : (constants free : Bool) (t : Tree) (xs ys : List Token) → DerivesTerm free t xs ys → Ends TERM_ENDS free ys → length xs < turns → (b : Bool) → has_prefix xs ≡ b → Reads (value nested turns free constants) t xs ys
@@ -242,22 +242,41 @@ module _ (nested : Form → Bool → Parser Tree) (turns : ℕ) (ih : Complete t
       let f = term-first nested turns ih free t xs ys d ends e fits in
       (passed _ _ e (on _ (f.reads) (ap (λ x. followed_by nested turns free f.first x f.rest) (quiet-follower constants free (ending_of f.first) f.rest f.ends) ∙ sym (tern-parts nested turns ih free xs f.rest f.first e f.reads) ∙ r.0)), r.1)
 
-  pub value-read : (constants free : Bool) (t : Tree) (xs ys : List Token) → DerivesValue constants free t xs ys → Ends SIMPLE_ENDS free ys → length xs < turns → Reads (value nested turns free constants) t xs ys
-  unfolding assigned operator_assigned operators.across same_shape
-  value-read constants free t xs ys (Term _ _ _ _ _ d) ends fits = term-value constants free t xs ys d (ends-wider SIMPLE_ENDS TERM_ENDS refl free ys ends) fits (has_prefix xs) refl
-  value-read constants free t xs ys (Assigns _ _ e target v _ ps _ d is h) ends fits =
+  -- an assignment, whose value is read
+  pub assigned-read : (constants free : Bool) (e : Token) (target v : Tree) (xs ps ys : List Token) → DerivesTarget constants free target xs (e ∷ ps) → Is shape.Assign e → length xs < turns → (suc (length ps) < turns → Reads (nested form.Value free) v ps ys) →
+      Reads (value nested turns free constants) (tree.Assign target v (across (span_of target) (span_of v))) xs ys
+  unfolding assigned operators.across same_shape
+  assigned-read constants free e target v xs ps ys d is fits reads =
       let u = target-read constants free target xs (e ∷ ps) d (ends-by OPERAND_ENDS shape.Assign refl refl free e ps is) fits in
       let short = past-length u.past in
-      let r = ih.value free v ps ys (let h : suc (length ps) < turns = omega arith in h) h ends in
-      (followed-as constants free (is_plain_target constants) target xs (e ∷ ps) follower.Value t ys u (plain-assign constants (ending_of target) e ps u.usable is) (on _ (expects shape.Assign e ps is) (on _ r.0 refl)), past-more u.past (within-token e (past-within r.1)))
-  value-read constants free t xs ys (Computes _ _ o operator target v _ ps _ d row h) ends fits =
+      let r = reads (let h : suc (length ps) < turns = omega arith in h) in
+      (followed-as constants free (is_plain_target constants) target xs (e ∷ ps) follower.Value _ ys u (plain-assign constants (ending_of target) e ps u.usable is) (on _ (expects shape.Assign e ps is) (on _ r.0 refl)), past-more u.past (within-token e (past-within r.1)))
+
+  -- one that computes
+  pub computed-read : (constants free : Bool) (o : Token) (operator : Binary) (target v : Tree) (xs ps ys : List Token) → DerivesTarget false free target xs (o ∷ ps) → IsRow ASSIGNMENTS (shape_of o.kind) operator → length xs < turns →
+      (suc (length ps) < turns → Reads (nested form.Value free) v ps ys) → Reads (value nested turns free constants) (tree.OperatorAssign target operator o.span v (across (span_of target) (span_of v))) xs ys
+  unfolding operator_assigned operators.across
+  computed-read constants free o operator target v xs ps ys d row fits reads =
       let u = target-read false free target xs (o ∷ ps) d (assign-ends o ps operator row free) fits in
       let short = past-length u.past in
-      let r = ih.value free v ps ys (let h : suc (length ps) < turns = omega arith in h) h ends in
-      (followed-as constants free (is_plain_target false) target xs (o ∷ ps) (follower.Operator operator) t ys u (operator-assign constants (ending_of target) o ps operator (assignable (ending_of target) u.usable) row) (on _ r.0 refl), past-more u.past (within-token o (past-within r.1)))
-  value-read constants free t xs ys (Command _ _ callee given b _ ps qs _ d non h ordered k leaves) ends fits =
+      let r = reads (let h : suc (length ps) < turns = omega arith in h) in
+      (followed-as constants free (is_plain_target false) target xs (o ∷ ps) (follower.Operator operator) _ ys u (operator-assign constants (ending_of target) o ps operator (assignable (ending_of target) u.usable) row) (on _ r.0 refl), past-more u.past (within-token o (past-within r.1)))
+
+  -- a command, whose arguments end there
+  pub commanded-read : (constants free : Bool) (callee : Tree) (given : List (Argument Tree)) (b : Option (Block Tree)) (xs ps qs ys : List Token) → DerivesCallee free callee xs ps → ¬ StartsWith NO_COMMAND ps → DerivesArguments false false given ps qs → AreOrdered given →
+      DerivesDo free b qs ys → (b ≡ None ⊎ HasNoBlock given) → Ends SIMPLE_ENDS false qs → (free && sees shape.Do ys) ≡ false → length xs < turns →
+      Reads (value nested turns free constants) (tree.Command callee given b (across (span_of callee) (block_or (span_of_arguments (span_of callee) given) b))) xs ys
+  commanded-read constants free callee given b xs ps qs ys d non h ordered k leaves ends none fits =
       let begin = bare-begins ps (arguments-begin false false given ps qs h) non in
       let u = callee-read free callee xs ps d (bare-ends free ps begin) fits in
       let short = past-length u.past in
-      let r = command-read free callee given b ps qs ys h ordered k leaves ends (let h : suc (length ps) < turns = omega arith in h) in
-      (followed-as constants free is_callee callee xs ps follower.Arguments t ys u (bare-follower constants (ending_of callee) ps u.usable begin) r.0, past-more u.past (past-within r.1))
+      let r = command-read free callee given b ps qs ys h ordered k leaves ends none (let h : suc (length ps) < turns = omega arith in h) in
+      (followed-as constants free is_callee callee xs ps follower.Arguments _ ys u (bare-follower constants (ending_of callee) ps u.usable begin) r.0, past-more u.past (past-within r.1))
+
+  pub value-read : (constants free : Bool) (t : Tree) (xs ys : List Token) → DerivesValue constants free t xs ys → Ends SIMPLE_ENDS free ys → length xs < turns → Reads (value nested turns free constants) t xs ys
+  unfolding same_shape
+  value-read constants free t xs ys (Term _ _ _ _ _ d) ends fits = term-value constants free t xs ys d (ends-wider SIMPLE_ENDS TERM_ENDS refl free ys ends) fits (has_prefix xs) refl
+  value-read constants free t xs ys (Assigns _ _ e target v _ ps _ d is h) ends fits = assigned-read constants free e target v xs ps ys d is fits (λ less. ih.value free v ps ys less h ends)
+  value-read constants free t xs ys (Computes _ _ o operator target v _ ps _ d row h) ends fits = computed-read constants free o operator target v xs ps ys d row fits (λ less. ih.value free v ps ys less h ends)
+  value-read constants free t xs ys (Command _ _ callee given b _ ps qs _ d non h ordered k leaves) ends fits =
+      commanded-read constants free callee given b xs ps qs ys d non h ordered k leaves (do-ends free b qs ys k ends) (no-do SIMPLE_ENDS free ys ends) fits

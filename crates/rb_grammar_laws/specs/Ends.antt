@@ -1,4 +1,5 @@
--- What may stand after a form in a program. None of it would go on with the form.
+-- What may stand after a form. None of it would go on with the form, and but for a `def`, and a `rescue` after a term, it may stand there in
+-- a program.
 use Rattle.std.specs.Prelude.{◌≡◌, ℕ, ◌<◌, Bool, true, List, [], ◌∷◌, ◌++◌, Some}
 use Rattle.rb_tree.specs.Tokens.{shape_of}
 use Rattle.rb_tree.specs.declared.syntax.Binary.{Binary}
@@ -25,9 +26,9 @@ STATEMENT_ENDS = shape.Separator ∷ BODY_ENDS
 abbrev pub SIMPLE_ENDS : List Shape
 SIMPLE_ENDS = shape.If ∷ shape.Unless ∷ shape.While ∷ shape.Until ∷ shape.Then ∷ shape.Do ∷ STATEMENT_ENDS
 
--- a term
+-- a term; none goes on with a `rescue`
 abbrev pub TERM_ENDS : List Shape
-TERM_ENDS = shape.Comma ∷ shape.Arrow ∷ shape.Colon ∷ shape.CloseBracket ∷ SIMPLE_ENDS
+TERM_ENDS = shape.Rescue ∷ shape.Comma ∷ shape.Arrow ∷ shape.Colon ∷ shape.CloseBracket ∷ SIMPLE_ENDS
 
 -- the operators between two operands, but `**`
 abbrev pub OPERATORS : List Shape
