@@ -1,9 +1,8 @@
 -- The two readers, and the facts of each.
-use Rattle.std.proofs.Common.{◌≡◌, ◌⊎◌, inl, inr, ℕ, ◌+◌, ◌<◌, ◌≤◌, Bool, true, false, List, [], ◌∷◌, ◌++◌, length, Ok, Err, refl, sym, ap, subst, ◌∙◌, append-nil, length-append, arith}
+use Rattle.std.proofs.Common.{◌≡◌, ◌⊎◌, inl, inr, ⊎_elim, ℕ, ◌+◌, ◌<◌, ◌≤◌, Bool, true, List, [], ◌∷◌, ◌++◌, length, Ok, Err, refl, sym, ap, subst, ◌∙◌, append-nil, length-append, arith}
 use Rattle.rb_tree.specs.declared.syntax.Tree.{Tree}
-use Rattle.rb_tree.specs.Tokens.{shape_of, same_shape}
+use Rattle.rb_tree.specs.Tokens.{shape_of}
 use Rattle.rb_tree.specs.declared.token.Token.{Token}
-use Rattle.rb_tree.specs.declared.token.Shape.{Shape}
 use Rattle.rb_tree.specs.declared.token.Shape.TheVariants as shape
 use Rattle.rb_expr.specs.declared.answers.Rule.{Rule}
 use Rattle.rb_expr.specs.declared.answers.Rule.TheVariants as rule
@@ -11,10 +10,10 @@ use Rattle.rb_expr.specs.Answers.{ruled}
 use Rattle.rb_expr.specs.Grammar.{parsed}
 use Rattle.rb_expr.specs.Reading.{Outcome}
 use Rattle.rb_expr.specs.Rules as rules
-use Rattle.rb_rules.specs.Tokens.{Is, IsOneOf}
-use Rattle.rb_grammar.proofs.Steps.{Holds, shown}
-use Rattle.rb_grammar_laws.specs.Ends.{BODY_ENDS, TERM_ENDS}
-use Rattle.rb_completion_laws.specs.After.{joins, Clear}
+use Rattle.rb_rules.specs.Tokens.{Is}
+use Rattle.rb_rules.specs.Grammar.{Parted}
+use Rattle.rb_grammar.proofs.Steps.{Holds}
+use Rattle.rb_grammar_laws.specs.Ends.{Ends, BODY_ENDS, TERM_ENDS}
 use Rattle.rb_grammar.proofs.Forms.{sound, terms-derive}
 use Rattle.rb_grammar_laws.proofs.Forms.{complete}
 use Rattle.rb_grammar_laws.proofs.Operators.{tern-read}
@@ -29,16 +28,22 @@ use Rattle.rb_prefix_laws.proofs.Programs.{again-same, again-other}
 use Rattle.rb_completion_laws.proofs.Steps.{Rel, Plain, Reach, Completes}
 use Rattle.rb_completion_laws.proofs.Steps.Fits.{Quiet}
 use Rattle.rb_completion_laws.proofs.Forms.{a-term-goes, viable}
-use Rattle.rb_expr_laws.specs.Bodies.{PlainBody}
-use Rattle.rb_expr_laws.specs.Forms.{Form, IsBarred, IsForm, MayFollow}
+use Rattle.rb_expr_laws.specs.Bodies.{IsParted, PlainBody}
+use Rattle.rb_expr_laws.specs.Forms.{Form, IsForm, MayPrecede, Stands}
 use Rattle.rb_expr_laws.proofs.Facts.{Facts}
 use Rattle.rb_expr_laws.proofs.Sound.{body-holds}
-use Rattle.rb_expr_laws.proofs.Complete.{body-read}
+use Rattle.rb_expr_laws.proofs.Complete.{body-read, rescued-read}
+use Rattle.rb_expr_laws.proofs.Raised.{ONE, body-raised, raises}
 use Rattle.rb_expr_laws.proofs.Begun.{body-goes}
 
 abbrev pub rule_of : Form → Rule
 rule_of (Form.Body constants) = rule.Body constants
 rule_of Form.Term = rule.Tern
+
+-- no token is next, or one that such a form is always read up to
+abbrev pub Follows : Form → List Token → Type 0
+Follows (Form.Body constants) rest = Ends BODY_ENDS true rest
+Follows Form.Term rest = Ends TERM_ENDS true rest
 
 -- what is read of a form at the first of these tokens
 abbrev pub reads : Form → List Token → Outcome Tree
@@ -64,15 +69,45 @@ told Q o t rest e h = got (subst (λ o. Holds o Q) e h)
 
 sounds : (form : Form) (d : ℕ) (tokens rest : List Token) (t : Tree) → read_at form d tokens ≡ Ok (t, rest) → IsForm form t tokens rest
 unfolding rules.longest_body
-sounds (Form.Body constants) d tokens rest t e = told (λ t ys. PlainBody constants t tokens ys) _ t rest e (body-holds (parsed d) (sound d) d constants tokens)
+sounds (Form.Body constants) d tokens rest t e = (told (λ t ys. PlainBody constants t tokens ys × IsParted constants tokens ys) _ t rest e (body-holds (parsed d) (sound d) d constants tokens)).0
 sounds Form.Term d tokens rest t e = terms-derive d tokens rest t e
+
+may-precede : (form : Form) (d : ℕ) (tokens rest : List Token) (t : Tree) → read_at form d tokens ≡ Ok (t, rest) → MayPrecede form tokens rest
+unfolding rules.longest_body
+may-precede (Form.Body constants) d tokens rest t e = (told (λ t ys. PlainBody constants t tokens ys × IsParted constants tokens ys) _ t rest e (body-holds (parsed d) (sound d) d constants tokens)).1
+may-precede Form.Term d tokens rest t e = tt
+
+-- what is read stands there
+pub stands : (form : Form) (tokens rest : List Token) (t : Tree) → reads form tokens ≡ Ok (t, rest) → Stands form t tokens rest
+stands form tokens rest t e = let e' = sym (read-here form tokens) ∙ e in (sounds form (length tokens + 2) tokens rest t e', may-precede form (length tokens + 2) tokens rest t e')
 
 -- ---- what derives is read
 
-is-read : (form : Form) (d : ℕ) (tokens rest : List Token) (t : Tree) → length tokens < d → IsForm form t tokens rest → MayFollow form rest → read_at form d tokens ≡ Ok (t, rest)
+is-read : (form : Form) (d : ℕ) (tokens rest : List Token) (t : Tree) → length tokens < d → IsForm form t tokens rest → Follows form rest → read_at form d tokens ≡ Ok (t, rest)
 unfolding rules.longest_body rules.tern
 is-read (Form.Body constants) d tokens rest t fits derives ends = body-read (parsed d) d (complete d) (sound d) constants t tokens rest derives ends fits
 is-read Form.Term d tokens rest t fits derives ends = (tern-read (parsed d) d (complete d) true t tokens rest derives ends fits).0
+
+pub followed-read : (form : Form) (tokens rest : List Token) (t : Tree) → IsForm form t tokens rest → Follows form rest → reads form tokens ≡ Ok (t, rest)
+followed-read form tokens rest t d follows = read-here form tokens ∙ is-read form (length tokens + 2) tokens rest t (let h : length tokens < length tokens + 2 = omega arith in h) d follows
+
+nothing-follows : (form : Form) → Follows form []
+nothing-follows (Form.Body constants) = tt
+nothing-follows Form.Term = tt
+
+-- a body that is parted from a `rescue`
+pub rescued : (constants : Bool) (tokens ps rest : List Token) (k : Token) (t : Tree) → PlainBody constants t tokens ps → Parted t ps (k ∷ rest) → Is shape.Rescue k → reads (Form.Body constants) tokens ≡ Ok (t, k ∷ rest)
+unfolding rules.longest_body
+rescued constants tokens ps rest k t d parted is =
+    let n = length tokens + 2 in
+    read-here (Form.Body constants) tokens ∙ rescued-read (parsed n) n (complete n) (sound n) constants t tokens ps rest k d parted is (let h : length tokens < n = omega arith in h)
+
+-- a body before `**`, with which it doesn't go on
+pub before-power : (constants : Bool) (tokens : List Token) (power : Token) (t : Tree) → (is : Is shape.Power power) → PlainBody constants t tokens (power ∷ ONE ∷ []) → ((u : Tree) × PlainBody constants u tokens []) ⊎ (reads (Form.Body constants) tokens ≡ Ok (t, power ∷ ONE ∷ []))
+unfolding rules.longest_body
+before-power constants tokens power t is d =
+    let n = length tokens + 2 in
+    ⊎_elim (λ u. inl u) (λ e. inr (read-here (Form.Body constants) tokens ∙ e)) (body-raised power is (parsed n) n (complete n) (raises power is n) (sound n) constants t tokens d (let h : length tokens < n = omega arith in h))
 
 -- ---- it is read alike whatever stands after the next token
 
@@ -98,7 +133,7 @@ other-rest form before next after others o e r =
     ∙ ap (λ o. instead o (next ∷ others)) x
 
 -- what is refused at a usual token is refused at the end of those before it
-cut-short : (form : Form) (before : List Token) (next : Token) (after : List Token) → reads form (before ++ next ∷ after) ≡ Err (next ∷ after) → usual (shape_of next.kind) ≡ true → reads form before ≡ Err []
+pub cut-short : (form : Form) (before : List Token) (next : Token) (after : List Token) → reads form (before ++ next ∷ after) ≡ Err (next ∷ after) → usual (shape_of next.kind) ≡ true → reads form before ≡ Err []
 cut-short form before next after e u =
     let xs = before ++ next ∷ after in
     let d = length xs + 2 in
@@ -141,75 +176,12 @@ begins form tokens rest e =
     let front = c.swapped in
     (front.0, front.1, c.more, c.derives.0, subst (λ us. IsForm form c.derives.0 us []) front.2 c.derives.1)
 
-nothing-follows : (form : Form) → MayFollow form []
-nothing-follows (Form.Body constants) = tt
-nothing-follows Form.Term = tt
-
--- what is one by itself is one before tokens that don't change it
-before-others : (form : Form) (before rest : List Token) (t : Tree) → IsForm form t before [] → Clear rest → (u : Tree) × IsForm form u (before ++ rest) rest
-before-others form before rest t d clear =
-    let small : length before < length before + 2 = omega arith in
-    let r = answer-told (AForm form) before _ t [] (is-read form (length before + 2) before [] t small d (nothing-follows form)) (goes form (length before + 2) before) rest (Quiet [] rest clear) in
-    let front = r.swapped in
-    let same' : before ≡ front.0 = front.1 ∙ append-nil front.0 in
-    (r.derives.0, subst (λ us. IsForm form r.derives.0 us rest) (front.2 ∙ ap (λ us. us ++ rest) (sym same')) r.derives.1)
-
--- ---- where it is one by itself and refused
-
--- an ending word ends every form
-follows : (s : Shape) (t : Token) (ts : List Token) → Is s t → IsOneOf BODY_ENDS s → same_shape s shape.Do ≡ false → (form : Form) → MayFollow form (t ∷ ts)
-follows s t ts is one other form = by form
-  where
-    is_do : shape_of t.kind ≡ shape.Do → ⊥
-    is_do do-word = absurd (let e : same_shape s shape.Do ≡ true = ap (λ c. same_shape c shape.Do) (sym is) ∙ shown shape.Do t ts do-word in cc)
-
-    by : (form : Form) → MayFollow form (t ∷ ts)
-    by (Form.Body constants) = (subst (IsOneOf BODY_ENDS) (sym is) one, λ free do-word. is_do do-word)
-    by Form.Term = (subst (IsOneOf TERM_ENDS) (sym is) (inr (inr (inr (inr (inr (inr (inr (inr (inr (inr (inr one))))))))))), λ free do-word. is_do do-word)
-
--- a token that is not usual is barred, or ends every form
-unusual : (s : Shape) (t : Token) (ts : List Token) → Is s t → usual s ≡ false → IsBarred (t ∷ ts) ⊎ (((form : Form) → MayFollow form (t ∷ ts)) × Clear (t ∷ ts))
-unfolding same_shape
-unusual shape.Power t ts is e = inl (inl is)
-unusual shape.Rescue t ts is e = inl (inr (inl is))
-unusual shape.End t ts is e = inr (follows shape.End t ts is (inl refl) refl, ap joins is)
-unusual shape.Elsif t ts is e = inr (follows shape.Elsif t ts is (inr (inl refl)) refl, ap joins is)
-unusual shape.Else t ts is e = inr (follows shape.Else t ts is (inr (inr (inl refl))) refl, ap joins is)
-unusual shape.When t ts is e = inr (follows shape.When t ts is (inr (inr (inr (inl refl)))) refl, ap joins is)
-unusual shape.Ensure t ts is e = inr (follows shape.Ensure t ts is (inr (inr (inr (inr (inl refl))))) refl, ap joins is)
-unusual s t ts is e = absurd (let f : true ≡ false = e in cc)
-
--- what is refused after a form by itself is barred
-lone-refused : (form : Form) (before rest : List Token) (t : Tree) → IsForm form t before [] → reads form (before ++ rest) ≡ Err rest → IsBarred rest
-lone-refused form before rest t d e = by rest e
-  where
-    whole : reads form before ≡ Ok (t, [])
-    whole = read-here form before ∙ is-read form (length before + 2) before [] t (let h : length before < length before + 2 = omega arith in h) d (nothing-follows form)
-
-    by : (rest : List Token) → reads form (before ++ rest) ≡ Err rest → IsBarred rest
-    by [] e = absurd (let f : reads form before ≡ Err [] = ap (reads form) (sym (append-nil before)) ∙ e in let w : reads form before ≡ Ok (t, []) = whole in cc)
-    by (next ∷ after) e = go (usual (shape_of next.kind)) refl
-      where
-        either : IsBarred (next ∷ after) ⊎ (((form : Form) → MayFollow form (next ∷ after)) × Clear (next ∷ after)) → IsBarred (next ∷ after)
-        either (inl h) = h
-        either (inr h) =
-            let xs = before ++ next ∷ after in
-            let u = before-others form before (next ∷ after) t d h.1 in
-            let f = read-here form xs ∙ is-read form (length xs + 2) xs (next ∷ after) u.0 (let l : length xs < length xs + 2 = omega arith in l) u.1 (h.0 form) in
-            absurd (cc)
-
-        go : (b : Bool) → usual (shape_of next.kind) ≡ b → IsBarred (next ∷ after)
-        go true u = absurd (let f : reads form before ≡ Err [] = cut-short form before next after e u in let w : reads form before ≡ Ok (t, []) = whole in cc)
-        go false u = either (unusual (shape_of next.kind) next after refl u)
-
 -- ---- the facts
 
-pub facts : (form : Form) → Facts (IsForm form) (MayFollow form) (reads form)
+pub facts : (form : Form) → Facts (IsForm form) (reads form)
 facts form = record {
-  sound = λ tokens rest t e. sounds form (length tokens + 2) tokens rest t (sym (read-here form tokens) ∙ e);
-  complete = λ tokens rest t d follows. read-here form tokens ∙ is-read form (length tokens + 2) tokens rest t (let h : length tokens < length tokens + 2 = omega arith in h) d follows;
-  lone = lone-refused form;
-  nothing = nothing-follows form;
+  sound = λ tokens rest t e. (stands form tokens rest t e).0;
+  complete = λ tokens t d. followed-read form tokens [] t d (nothing-follows form);
   alone = stands-alone form;
   ended = λ t before next after others e. other-rest form before next after others (Ok (t, next ∷ after)) e refl;
   refused = λ before bad after others e. other-rest form before bad after others (Err (bad ∷ after)) e refl;

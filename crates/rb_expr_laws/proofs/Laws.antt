@@ -4,19 +4,23 @@ use Rattle.std.specs.Prelude.{slice_range}
 use Rattle.std.proofs.lemmas.List.{length-take-le}
 use Rattle.rb_tree.specs.declared.syntax.Tree.{Tree}
 use Rattle.rb_tree.specs.declared.token.Token.{Token}
+use Rattle.rb_tree.specs.declared.token.Shape.TheVariants as shape
 use Rattle.rb_weight.specs.Limits.{MOST}
 use Rattle.rb_weight.specs.Scans.{first_too_deep}
 use Rattle.rb_weight.specs.Weights.{DeepAt, IsFirstDeep}
 use Rattle.rb_weight.proofs.Alike.{first-deep}
+use Rattle.rb_rules.specs.Tokens.{StartsWith}
 use Rattle.rb_expr.specs.declared.ParseEnd.{ParseEnd}
 use Rattle.rb_expr.specs.declared.ParseEnd.TheVariants.{Bad, TooDeep, NoMemory}
 use Rattle.rb_expr.specs.Reading.{Outcome}
 use Rattle.rb_expr.specs.Answers.{answered, answered_by, bad_at, cut, cut_by, ruled, start_at, whole, whole_by}
-use Rattle.rb_expr_laws.specs.Forms.{Form, BeginsForm, IsBarred, IsForm, MayFollow, Reaches}
+use Rattle.rb_expr_laws.specs.Forms.{Form, BeginsForm, IsBarred, IsForm, IsPowered, MayPrecede, Reaches, Stands}
 use Rattle.rb_expr_laws.specs.Laws.{AnswersSay, DeepFormsAreRefused, FormsAreRead, FormsEndThere, LoneFormsAreRead, NoFormsAreRefused, Says, answer_of}
+use Rattle.rb_expr_laws.proofs.Elsewhere.{lone-stand}
 use Rattle.rb_expr_laws.proofs.Facts.{ended-begins, ended-further, refused-begins, refused-further}
-use Rattle.rb_expr_laws.proofs.Forms.{facts, reads, rule_of}
-use Rattle.rb_expr_laws.proofs.Reach.{no-more, one-reach, read-reaches, refused-reaches, same-before, same-rest}
+use Rattle.rb_expr_laws.proofs.Forms.{facts, reads, rule_of, stands}
+use Rattle.rb_expr_laws.proofs.Reach.{no-more, one-reach, read-reaches, refused-reaches, same-rest}
+use Rattle.rb_expr_laws.proofs.Standing.{one-stands, standing-read}
 
 -- ---- the first deep token
 
@@ -57,15 +61,14 @@ unfolding read-reaches refused-reaches
 whole-says form tokens from weight here within light (Ok (t, rest)) e =
     let xs = drop from tokens in
     let h = (facts form).alone xs rest t e in
-    (length h.0, place-after tokens h.0 rest from within h.1, read-reaches form xs h.0 rest t h.2 h.1 h.3 e, (facts form).sound xs rest t e, (h.2, h.3), λ turn d. absurd (light turn d))
+    (length h.0, place-after tokens h.0 rest from within h.1, read-reaches form xs h.0 rest t h.2 h.1 h.3 e, stands form xs rest t e, (h.2, h.3), λ turn d. absurd (light turn d))
 whole-says form tokens from weight here within light (Err rest) e =
     let xs = drop from tokens in
     let h = (facts form).begun xs rest e in (
       length h.0,
       refused-reaches form xs h.0 rest h.1 (h.2, h.3, h.4) e,
       refl,
-      (λ t d follows. let read = (facts form).complete xs rest t d follows in absurd (cc)),
-      (λ t d. (facts form).lone h.0 rest t d (subst (λ us. reads form us ≡ Err rest) h.1 e)),
+      (λ t d. let read = standing-read form xs (length h.0) t (refused-reaches form xs h.0 rest h.1 (h.2, h.3, h.4) e) d in absurd (cc)),
       λ turn d. absurd (light turn d),
     )
 
@@ -98,7 +101,7 @@ cut-says form tokens from weight here turn within deep (Ok (t, next ∷ after)) 
       length h.0,
       place-within from turn (length h.0) (length (next ∷ after)) le numbers.1,
       read-reaches form xs h.0 (next ∷ (after ++ more)) t h.3 parts h.4 e',
-      (facts form).sound xs (next ∷ (after ++ more)) t e',
+      stands form xs (next ∷ (after ++ more)) t e',
       (h.3, h.4),
       λ k d. let first = first-is-first xs weight here turn k deep d in let m = numbers.0 in omega arith,
     )
@@ -118,8 +121,7 @@ cut-says form tokens from weight here turn within deep (Err (bad ∷ after)) e =
       length b.0,
       refused-reaches form xs b.0 (bad ∷ (after ++ more)) parts (b.2, b.3, b.4) e',
       refl,
-      (λ t d follows. let read = (facts form).complete xs (bad ∷ (after ++ more)) t d follows in absurd (cc)),
-      (λ t d. (facts form).lone b.0 (bad ∷ (after ++ more)) t d (subst (λ us. reads form us ≡ Err (bad ∷ (after ++ more))) parts e')),
+      (λ t d. let read = standing-read form xs (length b.0) t (refused-reaches form xs b.0 (bad ∷ (after ++ more)) parts (b.2, b.3, b.4) e') d in absurd (cc)),
       λ k d. let first = first-is-first xs weight here turn k deep d in let m = numbers.0 in omega arith,
     )
 
@@ -181,29 +183,19 @@ past-deep form tokens weight here turn n deep b r le =
     let more = no-more form tokens (take (turn + 1) tokens) (drop (turn + 1) tokens) n r (sym (take-append-drop (turn + 1) tokens)) b in
     absurd (let h : ⊥ = omega arith in h)
 
-same-read : (o : Outcome Tree) (t u : Tree) (rest : List Token) → o ≡ Ok (t, rest) → o ≡ Ok (u, rest) → t ≡ u
-same-read o t u rest e f = ap first (sym e ∙ f)
-  where
-    first : Outcome Tree → Tree
-    first (Ok p) = p.0
-    first (Err left) = t
-
 pub forms-are-read : FormsAreRead
-forms-are-read form tokens from weight here n t within part light r d follows none = by (answer_of form tokens from weight here) refl (says form tokens from weight here within part light)
+forms-are-read form tokens from weight here n t within part light r d none = by (answer_of form tokens from weight here) refl (says form tokens from weight here within part light)
   where
     xs : List Token
     xs = drop from tokens
 
     by : (a : Result (Tree × ℕ) ParseEnd) → answer_of form tokens from weight here ≡ a → Says form tokens from weight here a → answer_of form tokens from weight here ≡ Ok (t, from + n)
     by (Ok (u, place)) e (m, p, q, du, alone, light') =
-        let rest = same-rest form xs m n q r in
-        let tree : t ≡ u = same-read (reads form xs) t u r.rest ((facts form).complete xs r.rest t d follows) ((facts form).complete xs r.rest u (subst (λ us. IsForm form u xs us) rest du) follows) in
+        let tree : u ≡ t = one-stands form xs m u t q du (subst (λ us. Stands form t xs us) (sym (same-rest form xs m n q r)) d) in
         let number : m ≡ n = one-reach form xs m n q r in
         let at : place ≡ from + n = omega arith in
-        e ∙ ap (λ v. Ok (v, place)) (sym tree) ∙ ap (λ k. Ok (t, k)) at
-    by (Err (Bad at)) e (m, q, p, no', lone, light') =
-        let rest = sym (same-rest form xs m n q r) in
-        absurd (no' t (subst (λ us. IsForm form t xs us) rest d) (subst (MayFollow form) rest follows))
+        e ∙ ap (λ v. Ok (v, place)) tree ∙ ap (λ k. Ok (t, k)) at
+    by (Err (Bad at)) e (m, q, p, no', light') = absurd (no' t (subst (λ us. Stands form t xs us) (sym (same-rest form xs m n q r)) d))
     by (Err (TooDeep at)) e (turn, p, deep, b) = absurd (past-deep form xs weight here turn n deep b r (none turn deep))
     by (Err NoMemory) e s = absurd (answer-tells form tokens from weight here e)
 
@@ -219,24 +211,29 @@ forms-end-there form tokens from weight here n within part light r none = by (an
         let number : m ≡ n = one-reach form xs m n q r in
         let at : place ≡ from + n = omega arith in
         inl (u, e ∙ ap (λ k. Ok (u, k)) at)
-    by (Err (Bad at)) e (m, q, p, no', lone, light') = inr (e ∙ ap (λ k. Err (Bad k)) (p ∙ ap (bad_at tokens) (same-rest form xs m n q r)))
+    by (Err (Bad at)) e (m, q, p, no', light') = inr (e ∙ ap (λ k. Err (Bad k)) (p ∙ ap (bad_at tokens) (same-rest form xs m n q r)))
     by (Err (TooDeep at)) e (turn, p, deep, b) = absurd (past-deep form xs weight here turn n deep b r (none turn deep))
     by (Err NoMemory) e s = absurd (answer-tells form tokens from weight here e)
+
+-- neither `**` nor `rescue` is next
+free-rescue : (rest : List Token) → ¬ IsBarred rest → StartsWith (shape.Rescue ∷ []) rest → ⊥
+free-rescue [] free h = h
+free-rescue (next ∷ after) free (inl is) = free (inr (inl is))
+free-rescue (next ∷ after) free (inr none) = none
+
+free-precede : (form : Form) (tokens rest : List Token) → ¬ IsBarred rest → MayPrecede form tokens rest
+free-precede (Form.Body constants) tokens rest free = λ rescue. absurd (free-rescue rest free rescue)
+free-precede Form.Term tokens rest free = tt
+
+free-unpowered : (rest : List Token) → ¬ IsBarred rest → ¬ IsPowered rest
+free-unpowered [] free h = h
+free-unpowered (next ∷ after) free (inl is) = free (inl is)
+free-unpowered (next ∷ after) free (inr none) = none
 
 pub lone-forms-are-read : LoneFormsAreRead
-lone-forms-are-read form tokens from weight here n t within part light r d free none = by (answer_of form tokens from weight here) refl (says form tokens from weight here within part light)
-  where
-    xs : List Token
-    xs = drop from tokens
-
-    by : (a : Result (Tree × ℕ) ParseEnd) → answer_of form tokens from weight here ≡ a → Says form tokens from weight here a → (u : Tree) × (answer_of form tokens from weight here ≡ Ok (u, from + n))
-    by (Ok (u, place)) e (m, p, q, du, alone, light') =
-        let number : m ≡ n = one-reach form xs m n q r in
-        let at : place ≡ from + n = omega arith in
-        (u, e ∙ ap (λ k. Ok (u, k)) at)
-    by (Err (Bad at)) e (m, q, p, no', lone, light') = absurd (free (subst IsBarred (same-rest form xs m n q r) (lone t (subst (λ us. IsForm form t us []) (sym (same-before form xs m n q r)) d))))
-    by (Err (TooDeep at)) e (turn, p, deep, b) = absurd (past-deep form xs weight here turn n deep b r (none turn deep))
-    by (Err NoMemory) e s = absurd (answer-tells form tokens from weight here e)
+lone-forms-are-read form tokens from weight here n t within part light r d free none =
+    let there = subst (λ us. IsForm form t us r.rest) (sym r.whole) (lone-stand form t r.before r.rest d (free-unpowered r.rest free)) in
+    forms-are-read form tokens from weight here n t within part light r (there, free-precede form (drop from tokens) r.rest free) none
 
 pub no-forms-are-refused : NoFormsAreRefused
 no-forms-are-refused form tokens from weight here n within part light r no' none = by (answer_of form tokens from weight here) refl (says form tokens from weight here within part light)
@@ -245,8 +242,8 @@ no-forms-are-refused form tokens from weight here n within part light r no' none
     xs = drop from tokens
 
     by : (a : Result (Tree × ℕ) ParseEnd) → answer_of form tokens from weight here ≡ a → Says form tokens from weight here a → answer_of form tokens from weight here ≡ Err (Bad (bad_at tokens r.rest))
-    by (Ok (u, place)) e (m, p, q, du, alone, light') = absurd (no' u (subst (λ us. IsForm form u xs us) (same-rest form xs m n q r) du))
-    by (Err (Bad at)) e (m, q, p, no2, lone, light') = e ∙ ap (λ k. Err (Bad k)) (p ∙ ap (bad_at tokens) (same-rest form xs m n q r))
+    by (Ok (u, place)) e (m, p, q, du, alone, light') = absurd (no' u (subst (λ us. Stands form u xs us) (same-rest form xs m n q r) du))
+    by (Err (Bad at)) e (m, q, p, no2, light') = e ∙ ap (λ k. Err (Bad k)) (p ∙ ap (bad_at tokens) (same-rest form xs m n q r))
     by (Err (TooDeep at)) e (turn, p, deep, b) = absurd (past-deep form xs weight here turn n deep b r (none turn deep))
     by (Err NoMemory) e s = absurd (answer-tells form tokens from weight here e)
 
@@ -258,7 +255,7 @@ deep-forms-are-refused form tokens from weight here turn within part light deep 
 
     by : (a : Result (Tree × ℕ) ParseEnd) → answer_of form tokens from weight here ≡ a → Says form tokens from weight here a → answer_of form tokens from weight here ≡ Err (TooDeep (start_at tokens (from + turn)))
     by (Ok (u, place)) e (m, p, q, du, alone, none) = absurd (past-deep form xs weight here turn m deep b q (none turn deep))
-    by (Err (Bad at)) e (m, q, p, no', lone, none) = absurd (past-deep form xs weight here turn m deep b q (none turn deep))
+    by (Err (Bad at)) e (m, q, p, no', none) = absurd (past-deep form xs weight here turn m deep b q (none turn deep))
     by (Err (TooDeep at)) e (k, p, deep', b') =
         let a = first-is-first xs weight here turn k deep deep' in
         let c = first-is-first xs weight here k turn deep' deep in

@@ -1,8 +1,14 @@
 pub mod Facts
+pub mod Moved
+pub mod Kept
+pub mod Powers
 pub mod Sound
 pub mod Complete
+pub mod Raised
 pub mod Begun
 pub mod Forms
 pub mod Reach
+pub mod Elsewhere
+pub mod Standing
 pub mod Laws
 pub mod Examples

@@ -3,7 +3,6 @@ use Rattle.std.proofs.Common.{◌≡◌, ◌⊎◌, inl, inr, ℕ, zero, suc, �
 use Rattle.rb_tree.specs.declared.syntax.Tree.{Tree}
 use Rattle.rb_tree.specs.declared.token.Token.{Token}
 use Rattle.rb_expr.specs.Reading.{Outcome}
-use Rattle.rb_prefix_laws.proofs.Steps.{same-front}
 use Rattle.rb_expr_laws.specs.Forms.{Form, BeginsForm, GoesNoFurther, IsForm, Reaches}
 use Rattle.rb_expr_laws.specs.Laws.{FormsReach, NoneIsLonger, OneReach}
 use Rattle.rb_expr_laws.proofs.Facts.{alone-begins, refused-no-further, ended-no-further}
@@ -101,7 +100,3 @@ same-rest form tokens m n p q =
     empty : (us : List Token) → length us ≡ 0 → us ≡ []
     empty [] e = refl
     empty (u ∷ us) e = absurd (let h : ⊥ = omega arith in h)
-
--- and so is what stands before it
-pub same-before : (form : Form) (tokens : List Token) (m n : ℕ) (p : Reaches form tokens m) (q : Reaches form tokens n) → p.before ≡ q.before
-same-before form tokens m n p q = same-front p.before q.before q.rest (ap (λ us. p.before ++ us) (sym (same-rest form tokens m n p q)) ∙ sym p.whole ∙ q.whole)

@@ -1,5 +1,5 @@
--- Bodies without declarations that are read derive.
-use Rattle.std.proofs.Common.{◌≡◌, ℕ, zero, suc, Bool, true, false, if◌then◌else◌, List, [], ◌∷◌, ◌++◌, refl, sym, ap, subst, ◌∙◌, append_assoc, append-nil}
+-- Bodies without declarations that are read derive, and a separator or nothing parts them from a `rescue`.
+use Rattle.std.proofs.Common.{◌≡◌, ◌⊎◌, inl, inr, ℕ, zero, suc, Bool, true, false, if◌then◌else◌, List, [], ◌∷◌, ◌++◌, refl, sym, ap, subst, ◌∙◌, append_assoc, append-nil}
 use Rattle.rb_tree.specs.Trees.{span_of}
 use Rattle.rb_tree.specs.declared.syntax.Tree.{Tree}
 use Rattle.rb_tree.specs.Nodes as tree
@@ -10,14 +10,29 @@ use Rattle.rb_expr.specs.Reading.{Parser, start_of, sees, skip_separators}
 use Rattle.rb_expr.specs.Shapes.{begins_statement}
 use Rattle.rb_expr.specs.Statements.{modifiers, ended, statement, body_from, body_start, statements}
 use Rattle.rb_expr.specs.Statements as spec
-use Rattle.rb_rules.specs.Tokens.{Is}
+use Rattle.rb_rules.specs.Tokens.{Is, StartsWith}
 use Rattle.rb_rules.specs.Spans.{last_of}
-use Rattle.rb_rules.specs.Grammar.{Gap}
+use Rattle.rb_rules.specs.Grammar.{Gap, Parted, body_of}
 use Rattle.rb_rules.specs.Grammar.Gap.{Closed, Wide}
-use Rattle.rb_grammar.proofs.Steps.{Holds, answered, refused, step, weaker, choosing, same, gap}
+use Rattle.rb_rules.specs.Grammar.Parted.{AfterNothing, AfterSeparator}
+use Rattle.rb_grammar.proofs.Steps.{Holds, answered, refused, step, weaker, choosing, same, shown, gap}
 use Rattle.rb_grammar.proofs.Sound.{Sound, Starts}
 use Rattle.rb_grammar.proofs.Statements as statements_sound
-use Rattle.rb_expr_laws.specs.Bodies.{PlainBody, PlainMore, PlainStatement}
+use Rattle.rb_expr_laws.specs.Bodies.{IsParted, PlainBody, PlainMore, PlainStatement}
+
+-- a separator stands before the tokens left, if a `rescue` is next
+abbrev Divided : List Token → List Token → Type 0
+Divided rs ys = (sees shape.Rescue ys ≡ false) ⊎ ((t : Token) × Is shape.Separator t × Gap rs (t ∷ ys))
+
+-- the last of some separators
+last-separator : (t : Token) (ts ys : List Token) → Is shape.Separator t → Gap ts ys → (u : Token) × Is shape.Separator u × Gap (t ∷ ts) (u ∷ ys)
+last-separator t ts ys is (Closed _) = (t, is, Closed _)
+last-separator t ts ys is (Wide u us _ is2 g) = let l = last-separator u us ys is2 g in (l.0, l.1, Wide _ _ _ is l.2)
+
+divided-rescue : (ys : List Token) → StartsWith (shape.Rescue ∷ []) ys → sees shape.Rescue ys ≡ false → ⊥
+divided-rescue [] h e = h
+divided-rescue (t ∷ ts) (inl is) e = absurd (let f = shown shape.Rescue t ts is in cc)
+divided-rescue (t ∷ ts) (inr h) e = h
 
 module _ (nested : Form → Bool → Parser Tree) (ih : Sound nested) (turns : ℕ) where
   abbrev Statement : Bool → List Token → Tree → List Token → Type 0
@@ -40,7 +55,7 @@ module _ (nested : Form → Bool → Parser Tree) (ih : Sound nested) (turns : �
   -- statements from here on, and what is left after them and separators
   abbrev Row : Bool → List Token → List Tree → List Token → Type 0
   Row constants xs [] ys = (begins_statement xs ≡ false) × (xs ≡ ys)
-  Row constants xs (s ∷ ss) ys = (qs rs : List Token) × (begins_statement xs ≡ true) × PlainStatement constants s xs qs × PlainMore constants ss qs rs × Gap rs ys × Starts s xs
+  Row constants xs (s ∷ ss) ys = (qs rs : List Token) × (begins_statement xs ≡ true) × PlainStatement constants s xs qs × PlainMore constants ss qs rs × Gap rs ys × Divided rs ys × Starts s xs
 
   abbrev Rest : Bool → ℕ → ℕ → List Tree → List Token → Tree → List Token → Type 0
   Rest constants start end found xs t ys = (ss : List Tree) × (t ≡ tree.Body (found ++ ss) (record { start = start; end = end_by end ss })) × Row constants xs ss ys
@@ -50,9 +65,9 @@ module _ (nested : Form → Bool → Parser Tree) (ih : Sound nested) (turns : �
   parted [] e = absurd (cc)
   parted (t ∷ ts) e = (t, ts, refl, same _ _ e, subst (λ zs. Gap ts zs) (ap (λ b. if b then skip_separators ts else t ∷ ts) (sym e)) (gap ts).0)
 
-  row-more : (constants : Bool) (t : Token) (ts zs : List Token) → Is shape.Separator t → Gap ts zs → (ss : List Tree) (ys : List Token) → Row constants zs ss ys → (rs : List Token) × PlainMore constants ss (t ∷ ts) rs × Gap rs ys
-  row-more constants t ts zs is g [] ys h = (t ∷ ts, PlainMore.NoMore _ _, Wide _ _ _ is (subst (λ us. Gap ts us) h.1 g))
-  row-more constants t ts zs is g (s ∷ ss) ys h = (h.1, PlainMore.Another _ _ _ _ _ _ _ _ is g h.3 h.4, h.5)
+  row-more : (constants : Bool) (t : Token) (ts zs : List Token) → Is shape.Separator t → Gap ts zs → (ss : List Tree) (ys : List Token) → Row constants zs ss ys → (rs : List Token) × PlainMore constants ss (t ∷ ts) rs × Gap rs ys × Divided rs ys
+  row-more constants t ts zs is g [] ys h = let g' = subst (λ us. Gap ts us) h.1 g in (t ∷ ts, PlainMore.NoMore _ _, Wide _ _ _ is g', inr (last-separator t ts ys is g'))
+  row-more constants t ts zs is g (s ∷ ss) ys h = (h.1, PlainMore.Another _ _ _ _ _ _ _ _ is g h.3 h.4, h.5, h.6)
 
   body-from : (constants : Bool) (start end n : ℕ) (found : List Tree) (xs : List Token) → Holds (body_from nested turns true constants start end n found xs) (Rest constants start end found xs)
   unfolding body_from ended
@@ -64,10 +79,10 @@ module _ (nested : Form → Bool → Parser Tree) (ih : Sound nested) (turns : �
       let r = row-more constants p.0 p.1 (skip_separators qs) p.3 p.4 m.0 ys m.2 in (
         s ∷ m.0,
         m.1 ∙ ap (λ all. tree.Body all (record { start = start; end = end_by (span_of s).end m.0 })) (append_assoc found (s ∷ []) m.0),
-        (qs, r.0, e, h.0, subst (λ us. PlainMore constants m.0 us r.0) (sym p.2) r.1, r.2, h.1),
+        (qs, r.0, e, h.0, subst (λ us. PlainMore constants m.0 us r.0) (sym p.2) r.1, r.2, r.3, h.1),
       )))
       (λ last. choosing (sees shape.Rescue qs) (λ bare. refused _ _)
-      (λ none. answered (Rest constants start end found xs) _ qs (s ∷ [], refl, (qs, qs, e, h.0, PlainMore.NoMore _ _, Closed _, h.1))))))
+      (λ none. answered (Rest constants start end found xs) _ qs (s ∷ [], refl, (qs, qs, e, h.0, PlainMore.NoMore _ _, Closed _, inl none, h.1))))))
       (λ e. answered (Rest constants start end found xs) _ xs ([], ap (λ all. tree.Body all (record { start = start; end = end })) (sym (append-nil found)), (e, refl)))
 
   body-made : (constants : Bool) (all xs : List Token) → Gap all xs → (ss : List Tree) (ys : List Token) → Row constants xs ss ys → PlainBody constants (tree.Body ss (record { start = body_start xs; end = end_by 0 ss })) all ys
@@ -75,11 +90,22 @@ module _ (nested : Form → Bool → Parser Tree) (ih : Sound nested) (turns : �
       subst (λ b. PlainBody constants (tree.Body [] (record { start = if b then start_of xs else 0; end = 0 })) all ys) (sym h.0) (PlainBody.NoStatement _ _ _ (subst (λ zs. Gap all zs) h.1 g))
   body-made constants all xs g (s ∷ ss) ys h =
       subst (λ b. PlainBody constants (tree.Body (s ∷ ss) (record { start = if b then start_of xs else 0; end = end_by (span_of s).end ss })) all ys) (sym h.2)
-      (subst (λ n. PlainBody constants (tree.Body (s ∷ ss) (record { start = n; end = end_by (span_of s).end ss })) all ys) h.6
+      (subst (λ n. PlainBody constants (tree.Body (s ∷ ss) (record { start = n; end = end_by (span_of s).end ss })) all ys) h.7
       (subst (λ n. PlainBody constants (tree.Body (s ∷ ss) (record { start = (span_of s).start; end = n })) all ys) (sym (last-end s ss))
       (PlainBody.Statements _ _ _ _ _ _ _ _ g h.3 h.4 h.5)))
 
-  pub body-holds : (constants : Bool) (xs : List Token) → Holds (spec.body nested turns true constants xs) (λ t ys. PlainBody constants t xs ys)
+  body-divided : (constants : Bool) (all xs : List Token) → Gap all xs → (ss : List Tree) (ys : List Token) → Row constants xs ss ys → IsParted constants all ys
+  body-divided constants all xs g [] ys h rescue = (body_of [], ys, PlainBody.NoStatement _ _ _ (subst (λ zs. Gap all zs) h.1 g), AfterNothing _)
+  body-divided constants all xs g (s ∷ ss) ys h rescue = by h.6
+    where
+      by : Divided h.1 ys → (t : Tree) × (ps : List Token) × PlainBody constants t all ps × Parted t ps ys
+      by (inl none) = absurd (divided-rescue ys rescue none)
+      by (inr (t, is, gap)) = (body_of (s ∷ ss), t ∷ ys, PlainBody.Statements _ _ _ _ _ _ _ _ g h.3 h.4 gap, AfterSeparator _ t _ is)
+
+  pub body-holds : (constants : Bool) (xs : List Token) → Holds (spec.body nested turns true constants xs) (λ t ys. PlainBody constants t xs ys × IsParted constants xs ys)
   unfolding spec.body statements
   body-holds constants xs = weaker (body-from constants (body_start (skip_separators xs)) 0 turns [] (skip_separators xs))
-      (λ t ys m. subst (λ u. PlainBody constants u xs ys) (sym m.1) (body-made constants xs (skip_separators xs) (gap xs).0 m.0 ys m.2))
+      (λ t ys m. (
+        subst (λ u. PlainBody constants u xs ys) (sym m.1) (body-made constants xs (skip_separators xs) (gap xs).0 m.0 ys m.2),
+        body-divided constants xs (skip_separators xs) (gap xs).0 m.0 ys m.2,
+      ))

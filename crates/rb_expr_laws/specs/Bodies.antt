@@ -3,8 +3,8 @@ use Rattle.std.specs.Prelude.{Bool, true, List, [], ◌∷◌}
 use Rattle.rb_tree.specs.declared.syntax.Tree.{Tree}
 use Rattle.rb_tree.specs.declared.token.Token.{Token}
 use Rattle.rb_tree.specs.declared.token.Shape.TheVariants as shape
-use Rattle.rb_rules.specs.Tokens.{Is}
-use Rattle.rb_rules.specs.Grammar.{Gap, DerivesModified, DerivesSimple, body_of}
+use Rattle.rb_rules.specs.Tokens.{Is, StartsWith}
+use Rattle.rb_rules.specs.Grammar.{Gap, Parted, DerivesModified, DerivesSimple, body_of}
 
 -- A statement that is no declaration: a simple one and its modifiers. The flag says that the simple one may assign to a constant.
 pub record PlainStatement (constants : Bool) (t : Tree) (xs ys : List Token) : Type 0 where
@@ -24,3 +24,7 @@ pub data PlainBody : Bool → Tree → List Token → List Token → Type 0 wher
   NoStatement : (constants : Bool) (xs ys : List Token) → Gap xs ys → PlainBody constants (body_of []) xs ys
   Statements : (constants : Bool) (s : Tree) (ss : List Tree) (xs ps qs rs ys : List Token) →
       Gap xs ps → PlainStatement constants s ps qs → PlainMore constants ss qs rs → Gap rs ys → PlainBody constants (body_of (s ∷ ss)) xs ys
+
+-- Before a `rescue` a separator parts such a body from it, or nothing an empty one.
+abbrev pub IsParted : Bool → List Token → List Token → Type 0
+IsParted constants xs ys = StartsWith (shape.Rescue ∷ []) ys → (t : Tree) × (ps : List Token) × PlainBody constants t xs ps × Parted t ps ys

@@ -1,6 +1,7 @@
 -- What is answered of a few tokens.
-use Rattle.std.specs.Prelude.{◌≡◌, true, false, List, [], ◌∷◌, codes, Ok, Err}
+use Rattle.std.specs.Prelude.{◌≡◌, true, false, List, [], ◌∷◌, codes, None, Ok, Err}
 use Rattle.rb_tree.specs.declared.syntax.Binary.TheVariants as binary
+use Rattle.rb_tree.specs.declared.syntax.Jump.TheVariants as jump
 use Rattle.rb_tree.specs.declared.syntax.Unary.TheVariants as unary
 use Rattle.rb_tree.specs.Nodes as tree
 use Rattle.rb_tree.specs.declared.token.Token.{Token}
@@ -67,3 +68,14 @@ ComparisonIsRead =
 abbrev pub PowerIsRefused : Type 0
 PowerIsRefused =
     tern_of (token kind.Not 0 1 ∷ token kind.Minus 1 2 ∷ token (kind.Whole (codes "2")) 2 3 ∷ token kind.Power 4 6 ∷ token (kind.Whole (codes "3")) 7 8 ∷ []) 0 0 0 ≡ Err (Bad 4)
+
+-- `1`, and `rescue` on the next line: the body is read up to it, and from the number on a term is read before a `rescue` on the same line
+abbrev pub PartedIsRead : Type 0
+PartedIsRead =
+    (expr_of (token (kind.Whole (codes "1")) 0 1 ∷ token kind.Separator 1 2 ∷ token kind.Rescue 2 8 ∷ []) 0 0 0 false ≡ Ok (tree.Body (digit (codes "1") 0 ∷ []) (from_to 0 1), 2))
+    × (tern_of (token (kind.Whole (codes "1")) 0 1 ∷ token kind.Rescue 2 8 ∷ []) 0 0 0 ≡ Ok (digit (codes "1") 0, 1))
+
+-- `return ** 2`: what ends with no term goes on with no `**`, so it is read up to that
+abbrev pub JumpIsRead : Type 0
+JumpIsRead =
+    expr_of (token kind.Return 0 6 ∷ token kind.Power 7 9 ∷ token (kind.Whole (codes "2")) 10 11 ∷ []) 0 0 0 false ≡ Ok (tree.Body (tree.Jump jump.Return None (from_to 0 6) ∷ []) (from_to 0 6), 1)

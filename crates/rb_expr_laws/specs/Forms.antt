@@ -6,8 +6,7 @@ use Rattle.rb_tree.specs.declared.token.Shape.TheVariants as shape
 use Rattle.rb_weight.specs.Weights.{DeepAt}
 use Rattle.rb_rules.specs.Grammar.{DerivesTerm}
 use Rattle.rb_rules.specs.Tokens.{StartsWith}
-use Rattle.rb_grammar_laws.specs.Ends.{Ends, BODY_ENDS, TERM_ENDS}
-use Rattle.rb_expr_laws.specs.Bodies.{PlainBody}
+use Rattle.rb_expr_laws.specs.Bodies.{IsParted, PlainBody}
 
 -- the two forms: a body without declarations, whose flag says that its own statements may assign to constants, and a term
 pub data Form : Type 0 where
@@ -37,12 +36,20 @@ pub record Reaches (form : Form) (tokens : List Token) (n : ℕ) : Type 0 where
   pub begins : BeginsForm form before
   pub no_further : GoesNoFurther form before rest
 
--- No token is next, or one that may stand after such a form in a program.
-abbrev pub MayFollow : Form → List Token → Type 0
-MayFollow (Form.Body constants) rest = Ends BODY_ENDS true rest
-MayFollow Form.Term rest = Ends TERM_ENDS true rest
+-- Nothing bars what is next: directly after a statement no `rescue` may stand.
+abbrev pub MayPrecede : Form → List Token → List Token → Type 0
+MayPrecede (Form.Body constants) xs ys = IsParted constants xs ys
+MayPrecede Form.Term xs ys = Unit {0}
 
--- `**` is next, which may not follow a number with a `-`, or `rescue`, which may not follow a statement
+-- The first tokens are such a form with this tree, before the second, and the second may stand there.
+abbrev pub Stands : Form → Tree → List Token → List Token → Type 0
+Stands form t xs ys = IsForm form t xs ys × MayPrecede form xs ys
+
+-- `**` is next
+abbrev pub IsPowered : List Token → Type 0
+IsPowered rest = StartsWith (shape.Power ∷ []) rest
+
+-- `**` is next, with which a term goes on, or `rescue`
 abbrev pub IsBarred : List Token → Type 0
 IsBarred rest = StartsWith (shape.Power ∷ shape.Rescue ∷ []) rest
 

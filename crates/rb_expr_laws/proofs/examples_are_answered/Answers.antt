@@ -27,3 +27,9 @@ returns-clause-comparison c = read.3
 
 pub returns-clause-power : goal.returns-clause-power
 returns-clause-power c = refused.4
+
+pub returns-clause-parted : goal.returns-clause-parted
+returns-clause-parted c = read.4
+
+pub returns-clause-jump : goal.returns-clause-jump
+returns-clause-jump c = read.5
