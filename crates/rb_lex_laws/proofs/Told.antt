@@ -1,11 +1,11 @@
 -- The answers of the lexer, both ways.
-use Rattle.std.proofs.Common.{◌≡◌, ℕ, ◌⊎◌, List, Result, Ok, Err, inl, inr, sym, subst}
+use Rattle.std.proofs.Common.{ℕ, ◌⊎◌, List, Result, Ok, Err, inl, inr, subst}
 use Rattle.rb_tree.specs.declared.token.Token.{Token}
 use Rattle.rb_lex.specs.Lexed.{lexed_text}
 use Rattle.rb_lex.specs.declared.LexEnd.{LexEnd}
 use Rattle.rb_lex.specs.declared.LexEnd.TheVariants.{Bad, Outside, NoMemory}
 use Rattle.rb_rules.specs.Lexes.{Lexes, OutsideAt, BadCharAt}
-use Rattle.rb_lex_laws.specs.Tokens.{TokensAreThoseOfTheText, OutsideIsThatOfTheText, BadIsThatOfTheText, EachTextIsTold, TokensAreOne, NoneIsRefused, PlaceIsOne}
+use Rattle.rb_lex_laws.specs.Tokens.{TokensAreThoseOfTheText, OutsideIsThatOfTheText, BadIsThatOfTheText, EachTextIsTold}
 use Rattle.rb_lex_laws.proofs.Whole.{whole-text, outside-text, bad-text, IsSound, sound-text}
 
 pub tokens-told : TokensAreThoseOfTheText
@@ -25,17 +25,3 @@ each-told text = by (lexed_text text) (sound-text text)
     by (Err (Outside at)) h = inr (inl (at, h))
     by (Err (Bad at)) h = inr (inr (at, h))
     by (Err NoMemory) h = absurd h
-
-pub tokens-one : TokensAreOne
-tokens-one text tokens others l m = let e : Ok tokens ≡ lexed_text text = sym (whole-text text tokens l) in let f = whole-text text others m in cc
-
-pub none-refused : NoneIsRefused
-none-refused text tokens at l (inl o) = let e = whole-text text tokens l in let f = outside-text text at o in absurd (cc)
-none-refused text tokens at l (inr b) = let e = whole-text text tokens l in let f = bad-text text at b in absurd (cc)
-
-pub place-one : PlaceIsOne
-place-one text at other = (
-  λ o p. (let e = outside-text text at o in let f = outside-text text other p in cc),
-  λ b c. (let e = bad-text text at b in let f = bad-text text other c in cc),
-  λ o b. (let e = outside-text text at o in let f = bad-text text other b in absurd (cc)),
-)

@@ -18,23 +18,9 @@ OutsideIsThatOfTheText = (text : List ℕ) (at : ℕ) → (lexed_text text ≡ E
 abbrev pub BadIsThatOfTheText : Type 0
 BadIsThatOfTheText = (text : List ℕ) (at : ℕ) → (lexed_text text ≡ Err (Bad at)) ↔ BadCharAt text at
 
--- each text has tokens, or a place outside the profile, or one that is no Ruby
+-- each text has tokens, or a place outside the profile, or one that is no Ruby; and only one of these, since it has one answer
 abbrev pub EachTextIsTold : Type 0
 EachTextIsTold = (text : List ℕ) → ((tokens : List Token) × Lexes text tokens) ⊎ ((at : ℕ) × OutsideAt text at) ⊎ ((at : ℕ) × BadCharAt text at)
-
--- a text has no two lists of tokens
-abbrev pub TokensAreOne : Type 0
-TokensAreOne = (text : List ℕ) (tokens others : List Token) → Lexes text tokens → Lexes text others → tokens ≡ others
-
--- a text that has tokens has no refused place
-abbrev pub NoneIsRefused : Type 0
-NoneIsRefused = (text : List ℕ) (tokens : List Token) (at : ℕ) → Lexes text tokens → ¬ (OutsideAt text at ⊎ BadCharAt text at)
-
--- a text has no two refused places, and no two kinds of them
-abbrev pub PlaceIsOne : Type 0
-PlaceIsOne =
-    (text : List ℕ) (at other : ℕ) →
-    (OutsideAt text at → OutsideAt text other → at ≡ other) × (BadCharAt text at → BadCharAt text other → at ≡ other) × (OutsideAt text at → ¬ BadCharAt text other)
 
 -- the tokens stand one after the other from an offset on: none overlaps the next, and each begins and ends where a character of the text
 -- begins or the text ends

@@ -7,7 +7,7 @@ ghost use Rattle.rb_lex_laws.specs.Levels.{GivenLevelsAreFound, LevelIsThatOfThe
 ghost use Rattle.rb_lex_laws.specs.Longest.{IdentifiersAreLongest, ConstantsAreLongest, DigitsAreLongest};
 ghost use Rattle.rb_lex_laws.specs.Numbers.{FitsAreSmall};
 ghost use Rattle.rb_lex_laws.specs.Operators.{OperatorsAreFound, MethodOperatorsAreFound, ForeignOperatorsAreFound};
-ghost use Rattle.rb_lex_laws.specs.Tokens.{TokensAreThoseOfTheText, OutsideIsThatOfTheText, BadIsThatOfTheText, EachTextIsTold, TokensAreOne, NoneIsRefused, PlaceIsOne, TokensStandAtCharacters, RefusedPlacesAreStarts};
+ghost use Rattle.rb_lex_laws.specs.Tokens.{TokensAreThoseOfTheText, OutsideIsThatOfTheText, BadIsThatOfTheText, EachTextIsTold, TokensStandAtCharacters, RefusedPlacesAreStarts};
 ghost use Rattle.rb_lex_laws.specs.Words.{KeywordsAreKnown, ForeignWordsAreKnown, KnownKeywordsAreListed, KnownForeignWordsAreListed};
 
 /// The lexer's test of a whole number passes exactly where the number is less than 2 to the 128th.
@@ -47,19 +47,12 @@ pub fn given_levels_are_found()
 {}
 
 /// The lexer answers a list of tokens exactly where the text has it, and a refused place of each kind exactly where the text
-/// has it.
+/// has it. Each text has one of these, and only one, since it has one answer.
 pub fn answers_are_those_of_the_text()
     ensures tokens { TokensAreThoseOfTheText }
     ensures outside { OutsideIsThatOfTheText }
     ensures bad { BadIsThatOfTheText }
-{}
-
-/// Each text has one list of tokens, or one refused place of one kind.
-pub fn each_text_has_one_answer()
     ensures some { EachTextIsTold }
-    ensures tokens { TokensAreOne }
-    ensures neither { NoneIsRefused }
-    ensures place { PlaceIsOne }
 {}
 
 /// Tokens stand one after the other, and each begins and ends where a character begins or the text ends. So does each refused
