@@ -1,5 +1,5 @@
 -- Each form that is read derives, however deep others nest in it.
-use Rattle.std.proofs.Common.{◌≡◌, ℕ, zero, suc, true, false, List, Ok, subst}
+use Rattle.std.proofs.Common.{◌≡◌, ℕ, zero, suc, ◌-◌, min, true, false, List, Ok, sym, subst, ◌∙◌, arith}
 use Rattle.rb_tree.specs.declared.token.Token.{Token}
 use Rattle.rb_expr.specs.declared.form.Form.TheVariants as form
 use Rattle.rb_expr.specs.Reading.{Outcome}
@@ -10,6 +10,7 @@ use Rattle.rb_rules.specs.Grammar.{DerivesBody, DerivesStatement, DerivesSimple,
 use Rattle.rb_grammar.specs.Laws.{FormsDerive, TermsDerive, StatementsDerive, BodiesDerive}
 use Rattle.rb_grammar.proofs.Steps.{Holds, refused, weaker, Within}
 use Rattle.rb_grammar.proofs.Sound.{Sound, Ready, Starts}
+use Rattle.rb_grammar.proofs.Operations.{parsed-same}
 use Rattle.rb_grammar.proofs.Operators.{prefixed-holds, negated-holds, operation-holds, tern-holds}
 use Rattle.rb_grammar.proofs.Statements.{value-holds, simple-holds, statement-holds, body-holds}
 
@@ -46,8 +47,9 @@ forms-derive depth form.Body free tokens rest t e = (told (λ t ys. DerivesBody 
 forms-derive depth form.Simple free tokens rest t e = (told (λ t ys. DerivesSimple false free t tokens ys × Within tokens ys × Starts t tokens) _ t rest e ((sound depth).simple free tokens)).0
 forms-derive depth form.Value free tokens rest t e = (told (λ t ys. DerivesValue false free t tokens ys × Within tokens ys × Starts t tokens) _ t rest e ((sound depth).value free tokens)).0
 forms-derive depth form.Tern free tokens rest t e = (told (λ t ys. DerivesTerm free t tokens ys × Within tokens ys × Starts t tokens) _ t rest e ((sound depth).term free tokens)).0
-forms-derive depth (form.Operation least) free tokens rest t e = λ level is low.
-    (told (λ t ys. DerivesLevel level free t tokens ys × Within tokens ys × Starts t tokens) _ t rest (subst (λ n. parsed depth (form.Operation n) free tokens ≡ Ok (t, rest)) is e) ((sound depth).level level low free tokens)).0
+forms-derive depth (form.Operation least) free tokens rest t e =
+    let level = min 9 (least - 1) in
+    (told (λ t ys. DerivesLevel level free t tokens ys × Within tokens ys × Starts t tokens) _ t rest (sym (parsed-same depth least free tokens) ∙ e) ((sound depth).level level (omega arith) free tokens)).0
 forms-derive depth form.Negated free tokens rest t e = (told (λ t ys. DerivesLevel 9 free t tokens ys × Within tokens ys × Starts t tokens) _ t rest e ((sound depth).negated free tokens)).0
 forms-derive depth form.Prefixed free tokens rest t e = (told (λ t ys. DerivesPrefixed free t tokens ys × Within tokens ys × Starts t tokens) _ t rest e ((sound depth).prefixed free tokens)).0
 

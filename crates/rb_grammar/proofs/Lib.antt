@@ -6,6 +6,7 @@ pub mod Calls
 pub mod Operands
 pub mod Suffixes
 pub mod Operators
+pub mod Operations
 pub mod Statements
 pub mod Forms
 pub mod Names

@@ -1,22 +1,21 @@
 -- What `rb_expr` and `rb_decl` read derives.
-use Rattle.std.specs.Prelude.{◌≡◌, ℕ, suc, ◌≤◌, Bool, true, false, List, Ok}
+use Rattle.std.specs.Prelude.{◌≡◌, ℕ, ◌-◌, min, Bool, true, false, List, Ok}
 use Rattle.rb_tree.specs.declared.syntax.Tree.{Tree}
 use Rattle.rb_tree.specs.declared.token.Token.{Token}
 use Rattle.rb_expr.specs.declared.form.Form.{Form}
 use Rattle.rb_expr.specs.declared.form.Form.TheVariants as form
 use Rattle.rb_expr.specs.Grammar.{parsed}
 use Rattle.rb_expr.specs.Rules.{statement, longest_body, tern}
-use Rattle.rb_decl.specs.Programs.{parsed as parsed_program}
 use Rattle.rb_rules.specs.Forms.{Site, Inside, is_open}
-use Rattle.rb_rules.specs.Grammar.{Derives, DerivesBody, DerivesStatement, DerivesSimple, DerivesValue, DerivesTerm, DerivesLevel, DerivesPrefixed}
+use Rattle.rb_rules.specs.Grammar.{DerivesBody, DerivesStatement, DerivesSimple, DerivesValue, DerivesTerm, DerivesLevel, DerivesPrefixed}
 
--- The tree is one of this form. The rules count the levels of operators from 1, the grammar from 0.
+-- The tree is one of this form. The rules count the levels of operators from 1, the grammar from 0; another number stands for the nearest level.
 abbrev pub DerivesForm : Form → Bool → Tree → List Token → List Token → Type 0
 DerivesForm form.Body free t xs ys = DerivesBody Inside free t xs ys
 DerivesForm form.Simple free t xs ys = DerivesSimple false free t xs ys
 DerivesForm form.Value free t xs ys = DerivesValue false free t xs ys
 DerivesForm form.Tern free t xs ys = DerivesTerm free t xs ys
-DerivesForm (form.Operation least) free t xs ys = (level : ℕ) → least ≡ suc level → level ≤ 9 → DerivesLevel level free t xs ys
+DerivesForm (form.Operation least) free t xs ys = DerivesLevel (min 9 (least - 1)) free t xs ys
 DerivesForm form.Negated free t xs ys = DerivesLevel 9 free t xs ys
 DerivesForm form.Prefixed free t xs ys = DerivesPrefixed free t xs ys
 
@@ -33,7 +32,3 @@ StatementsDerive = (depth : ℕ) (at : Site) (tokens rest : List Token) (t : Tre
 
 abbrev pub BodiesDerive : Type 0
 BodiesDerive = (depth : ℕ) (at : Site) (tokens rest : List Token) (t : Tree) → longest_body depth (is_open at) tokens ≡ Ok (t, rest) → DerivesBody at true t tokens rest
-
--- The tree that tokens are parsed to is theirs as a program.
-abbrev pub ProgramsDerive : Type 0
-ProgramsDerive = (tokens : List Token) (t : Tree) → parsed_program tokens ≡ Ok t → Derives tokens t

@@ -7,10 +7,11 @@
 #![tactic(auto)]
 
 ghost use Rattle.rb_grammar.specs.Examples.{CallDerives, ClassDerives, GuardedDerives, JumpDerives, LateArgumentStandsNot, LateStandsNot, PowerDerives, ReversedArgumentStandsNot, SumDerives};
-ghost use Rattle.rb_grammar.specs.Laws.{BodiesDerive, FormsDerive, ProgramsDerive, StatementsDerive, TermsDerive};
+ghost use Rattle.rb_grammar.specs.Laws.{BodiesDerive, FormsDerive, StatementsDerive, TermsDerive};
 ghost use Rattle.rb_grammar.specs.Places.{TreesStandAtTokens, TreesStandByNodes};
 
-/// The tree that is read of a form is one that the grammar gives to the tokens read.
+/// The tree that is read of a form is one that the grammar gives to the tokens read. An operation may be asked for also by a number that
+/// is no level of operators: then it is one of the nearest level.
 pub fn forms_derive()
     ensures { FormsDerive }
 {}
@@ -20,11 +21,6 @@ pub fn parts_derive()
     ensures terms { TermsDerive }
     ensures statements { StatementsDerive }
     ensures bodies { BodiesDerive }
-{}
-
-/// The tree that `rb_decl` parses tokens to is one that the grammar gives to them as a program.
-pub fn programs_derive()
-    ensures { ProgramsDerive }
 {}
 
 /// Each place in the tree of a program begins where one of its tokens begins, and ends where that token or one after it ends. A

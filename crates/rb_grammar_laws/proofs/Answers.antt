@@ -1,14 +1,14 @@
--- What a program is parsed to, and that it has one tree.
-use Rattle.std.proofs.Common.{◌≡◌, ℕ, ◌+◌, ◌<◌, List, length, Option, Some, None, Result, Ok, Err, refl, sym, ap, ◌∙◌, arith}
+-- What a program is parsed to.
+use Rattle.std.proofs.Common.{◌≡◌, ℕ, ◌+◌, ◌<◌, List, length, Option, Some, None, Ok, refl, ap, ◌∙◌, arith}
 use Rattle.rb_tree.specs.declared.syntax.Tree.{Tree}
 use Rattle.rb_tree.specs.declared.token.Token.{Token}
 use Rattle.rb_weight.specs.Scans.{first_too_deep}
 use Rattle.rb_weight.specs.Weights.{IsFirstDeep}
 use Rattle.rb_weight.proofs.Alike.{first-deep}
-use Rattle.rb_decl.specs.Programs.{program, whole, whole_of, parsed, parsed_by}
+use Rattle.rb_decl.specs.Programs.{whole, whole_of, parsed, parsed_by}
 use Rattle.rb_rules.specs.Grammar.{Derives}
 use Rattle.rb_grammar.proofs.Programs.{programs-derive}
-use Rattle.rb_grammar_laws.specs.Laws.{IsLight, ProgramsAnswer, ParsedExactly, RefusedAreNone, OneTree}
+use Rattle.rb_grammar_laws.specs.Laws.{IsLight, ProgramsAnswer, ParsedExactly}
 use Rattle.rb_grammar_laws.proofs.Programs.{program-answers}
 
 pub programs-answer : ProgramsAnswer
@@ -38,16 +38,3 @@ parsed-light tokens t e = light-by tokens t (first_too_deep tokens 0 0 0) (first
 
 pub parsed-exactly : ParsedExactly
 parsed-exactly tokens t = ((λ e. (programs-derive tokens t e, parsed-light tokens t e)), λ h. parsed-answers tokens t h.0 h.1)
-
-pub refused-are-none : RefusedAreNone
-refused-are-none tokens end light e t d = absurd (let f = parsed-answers tokens t d light in cc)
-
-same-tree : {E : Type 0} (o : Result Tree E) (t u : Tree) → o ≡ Ok t → o ≡ Ok u → t ≡ u
-same-tree {E} o t u e f = ap held (sym e ∙ f)
-  where
-    held : Result Tree E → Tree
-    held (Ok x) = x
-    held (Err rest) = t
-
-pub one-tree : OneTree
-one-tree tokens t u d e = same-tree (program (length tokens + 2) tokens) t u (programs-answer tokens t d) (programs-answer tokens u e)

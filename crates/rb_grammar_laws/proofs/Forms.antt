@@ -1,13 +1,10 @@
 -- Each form that derives is read, wherever it stands.
-use Rattle.std.proofs.Common.{◌≡◌, ℕ, zero, suc, ◌<◌, false, List, length, ◌+◌, Ok, Err, refl, sym, ap, subst, ◌∙◌, arith}
-use Rattle.rb_tree.specs.declared.syntax.Tree.{Tree}
-use Rattle.rb_tree.specs.declared.token.Token.{Token}
+use Rattle.std.proofs.Common.{◌≡◌, ℕ, zero, suc, ◌<◌, false, Ok, refl, sym, subst, arith}
 use Rattle.rb_expr.specs.declared.form.Form.TheVariants as form
 use Rattle.rb_expr.specs.Grammar.{parsed}
 use Rattle.rb_grammar.proofs.Forms.{sound}
-use Rattle.rb_expr.specs.Reading.{Outcome}
 use Rattle.rb_grammar_laws.specs.Ends.{IsLooser}
-use Rattle.rb_grammar_laws.specs.Laws.{FormsAnswer, RescuedAnswer, OneReading}
+use Rattle.rb_grammar_laws.specs.Laws.{FormsAnswer, RescuedAnswer}
 use Rattle.rb_grammar_laws.proofs.Complete.{Complete}
 use Rattle.rb_grammar_laws.proofs.Operators.{prefixed-read, nine-read, operation-read, tern-read}
 use Rattle.rb_grammar_laws.proofs.Values.{value-read}
@@ -54,20 +51,3 @@ forms-answer depth form.Prefixed free tokens rest t fits d ends = ((complete dep
 
 pub rescued-answer : RescuedAnswer
 rescued-answer depth free tokens xs rest k t fits d g is = ((complete depth).rescued free t tokens xs rest k fits d g is).0
-
-same-answer : (o : Outcome Tree) (t u : Tree) (xs ys : List Token) → o ≡ Ok (t, xs) → o ≡ Ok (u, ys) → (t ≡ u) × (xs ≡ ys)
-same-answer o t u xs ys e f = (ap first (sym e ∙ f), ap left (sym e ∙ f))
-  where
-    first : Outcome Tree → Tree
-    first (Ok p) = p.0
-    first (Err rest) = t
-
-    left : Outcome Tree → List Token
-    left (Ok p) = p.1
-    left (Err rest) = rest
-
-pub one-reading : OneReading
-one-reading f free tokens xs ys t u d end d2 end2 =
-    let depth = length tokens + 2 in
-    let fits : suc (length tokens) < length tokens + 2 = omega arith in
-    same-answer (parsed depth f free tokens) t u xs ys (forms-answer depth f free tokens xs t fits d end) (forms-answer depth f free tokens ys u fits d2 end2)

@@ -5,7 +5,6 @@ pub mod Lists
 pub mod Calls
 pub mod Branches
 pub mod Operands
-pub mod Operations
 pub mod Suffixes
 pub mod Operators
 pub mod Values

@@ -1,10 +1,9 @@
--- What derives is what the parser answers, and no tokens have two trees.
-use Rattle.std.specs.Prelude.{◌≡◌, ◌↔◌, ℕ, suc, ◌+◌, ◌-◌, ◌<◌, ◌≤◌, min, Bool, false, List, [], ◌∷◌, length, Ok, Err}
+-- What derives is what the parser answers.
+use Rattle.std.specs.Prelude.{◌≡◌, ◌↔◌, ℕ, suc, ◌+◌, ◌<◌, ◌≤◌, Bool, false, List, [], ◌∷◌, length, Ok}
 use Rattle.rb_tree.specs.declared.syntax.Tree.{Tree}
 use Rattle.rb_tree.specs.declared.token.Token.{Token}
 use Rattle.rb_tree.specs.declared.token.Shape.TheVariants as shape
 use Rattle.rb_weight.specs.Weights.{DeepAt}
-use Rattle.rb_expr.specs.declared.ParseEnd.{ParseEnd}
 use Rattle.rb_expr.specs.declared.form.Form.{Form}
 use Rattle.rb_expr.specs.declared.form.Form.TheVariants as form
 use Rattle.rb_expr.specs.Grammar.{parsed}
@@ -43,11 +42,7 @@ DerivesAs (form.Operation least) free t xs ys = (level : ℕ) × (least ≡ suc 
 DerivesAs form.Negated free t xs ys = DerivesLevel 9 free t xs ys
 DerivesAs form.Prefixed free t xs ys = DerivesPrefixed free t xs ys
 
--- What is read of an operation derives, whichever number its level has: where no operator has it, at the nearest.
-abbrev pub OperationsDerive : Type 0
-OperationsDerive = (depth least : ℕ) (free : Bool) (tokens rest : List Token) (t : Tree) → parsed depth (form.Operation least) free tokens ≡ Ok (t, rest) → DerivesLevel (min 9 (least - 1)) free t tokens rest
-
--- What derives as a form, before tokens that end one, is read of it: this tree, and those tokens are left.
+-- What derives as a form, before tokens that end one, is read of it: this tree, and those tokens are left. So it has one tree, and ends at one place.
 abbrev pub FormsAnswer : Type 0
 FormsAnswer = (depth : ℕ) (f : Form) (free : Bool) (tokens rest : List Token) (t : Tree) → suc (length tokens) < depth → DerivesAs f free t tokens rest → EndsForm f free rest → parsed depth f free tokens ≡ Ok (t, rest)
 
@@ -55,13 +50,9 @@ FormsAnswer = (depth : ℕ) (f : Form) (free : Bool) (tokens rest : List Token) 
 abbrev pub RescuedAnswer : Type 0
 RescuedAnswer = (depth : ℕ) (free : Bool) (tokens xs rest : List Token) (k : Token) (t : Tree) → suc (length tokens) < depth → DerivesBody Inside free t tokens xs → Parted t xs (k ∷ rest) → Is shape.Rescue k → parsed depth form.Body free tokens ≡ Ok (t, k ∷ rest)
 
--- So a form has one tree, and ends at one place.
-abbrev pub OneReading : Type 0
-OneReading = (f : Form) (free : Bool) (tokens xs ys : List Token) (t u : Tree) → DerivesAs f free t tokens xs → EndsForm f free xs → DerivesAs f free u tokens ys → EndsForm f free ys → (t ≡ u) × (xs ≡ ys)
-
 -- ---- programs
 
--- What derives as a program is read of it, however deep it nests.
+-- What derives as a program is read of it, however deep it nests. So no tokens have two trees.
 abbrev pub ProgramsAnswer : Type 0
 ProgramsAnswer = (tokens : List Token) (t : Tree) → Derives tokens t → program (length tokens + 2) tokens ≡ Ok t
 
@@ -72,11 +63,3 @@ IsLight tokens = (at : ℕ) → ¬ DeepAt tokens 0 0 at
 -- The tree that tokens are parsed to is exactly the one that the grammar gives to them, if they nest too deep nowhere.
 abbrev pub ParsedExactly : Type 0
 ParsedExactly = (tokens : List Token) (t : Tree) → (parsed_program tokens ≡ Ok t) ↔ (Derives tokens t × IsLight tokens)
-
--- Where tokens that nest too deep nowhere are refused, they are no program.
-abbrev pub RefusedAreNone : Type 0
-RefusedAreNone = (tokens : List Token) (end : ParseEnd) → IsLight tokens → parsed_program tokens ≡ Err end → (t : Tree) → ¬ Derives tokens t
-
--- No tokens have two trees.
-abbrev pub OneTree : Type 0
-OneTree = (tokens : List Token) (t u : Tree) → Derives tokens t → Derives tokens u → t ≡ u

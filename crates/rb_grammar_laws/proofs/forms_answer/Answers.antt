@@ -1,4 +1,4 @@
-use Rattle.rb_grammar_laws.proofs.Forms.{forms-answer, rescued-answer, one-reading}
+use Rattle.rb_grammar_laws.proofs.Forms.{forms-answer, rescued-answer}
 use Rattle.rb_grammar_laws.proofs.forms_answer.Goals as goal
 
 pub returns-clause-read : goal.returns-clause-read
@@ -6,6 +6,3 @@ returns-clause-read c = forms-answer
 
 pub returns-clause-rescued : goal.returns-clause-rescued
 returns-clause-rescued c = rescued-answer
-
-pub returns-clause-one : goal.returns-clause-one
-returns-clause-one c = one-reading

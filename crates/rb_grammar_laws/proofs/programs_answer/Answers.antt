@@ -1,4 +1,4 @@
-use Rattle.rb_grammar_laws.proofs.Answers.{programs-answer, parsed-exactly, refused-are-none}
+use Rattle.rb_grammar_laws.proofs.Answers.{programs-answer, parsed-exactly}
 use Rattle.rb_grammar_laws.proofs.programs_answer.Goals as goal
 
 pub returns-clause-read : goal.returns-clause-read
@@ -6,6 +6,3 @@ returns-clause-read c = programs-answer
 
 pub returns-clause-exactly : goal.returns-clause-exactly
 returns-clause-exactly c = parsed-exactly
-
-pub returns-clause-refused : goal.returns-clause-refused
-returns-clause-refused c = refused-are-none

@@ -12,11 +12,9 @@ use Rattle.rb_expr.specs.Grammar.{parsed}
 use Rattle.rb_expr.specs.Operators.{binary_operation, negated, climb_by, climb_from, climb, operation}
 use Rattle.rb_expr.specs.Reading.{Outcome, Parser, and_then}
 use Rattle.rb_expr.specs.Shapes.{between, binary_of, ceiling, level_of, operator_between}
-use Rattle.rb_grammar.proofs.Forms.{forms-derive}
-use Rattle.rb_grammar_laws.specs.Laws.{OperationsDerive}
 
--- the nearest level that an operation can have
-abbrev nearest : ℕ → ℕ
+-- the nearest number that is a level of operators
+abbrev pub nearest : ℕ → ℕ
 nearest least = suc (min 9 (least - 1))
 
 -- ---- levels of operators
@@ -95,11 +93,7 @@ module _ (nested : Form → Bool → Parser Tree) (turns : ℕ) (free : Bool) wh
   unfolding operation climb
   operation-same least tokens = then-same (negated nested turns free tokens) _ _ (λ left rest. climb-same least turns 9 (let h : 9 ≤ 9 = omega arith in h) left rest)
 
-parsed-same : (depth least : ℕ) (free : Bool) (tokens : List Token) → parsed depth (form.Operation least) free tokens ≡ parsed depth (form.Operation (nearest least)) free tokens
+pub parsed-same : (depth least : ℕ) (free : Bool) (tokens : List Token) → parsed depth (form.Operation least) free tokens ≡ parsed depth (form.Operation (nearest least)) free tokens
 unfolding parsed
 parsed-same zero least free tokens = refl
 parsed-same (suc depth) least free tokens = operation-same (parsed depth) depth free least tokens
-
-pub operations-derive : OperationsDerive
-operations-derive depth least free tokens rest t e =
-    forms-derive depth (form.Operation (nearest least)) free tokens rest t (sym (parsed-same depth least free tokens) ∙ e) (min 9 (least - 1)) refl (omega arith)
