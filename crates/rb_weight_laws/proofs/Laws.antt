@@ -1,5 +1,5 @@
 -- The laws.
-use Rattle.std.proofs.Common.{◌≡◌, ℕ, ◌+◌, ◌<◌, ◌≤◌, List, [], ◌∷◌, ◌++◌, length, take, sym, ap, subst, ◌∙◌, append-nil, length-append, arith}
+use Rattle.std.proofs.Common.{◌≡◌, ℕ, ◌+◌, ◌<◌, ◌≤◌, ◌↔◌, List, [], ◌∷◌, ◌++◌, length, take, sym, ap, subst, ◌∙◌, append-nil, length-append, arith}
 use Rattle.std.proofs.lemmas.List.{take-append-le}
 use Rattle.rb_tree.specs.declared.token.Token.{Token}
 use Rattle.rb_tree.specs.declared.syntax.Tree.{Tree}
@@ -10,7 +10,7 @@ use Rattle.rb_weight.specs.declared.effect.Before.TheVariants as before
 use Rattle.rb_weight.specs.declared.effect.Level.TheVariants as level
 use Rattle.rb_weight_laws.specs.Roles.{Role, roles}
 use Rattle.rb_weight_laws.specs.Weights.{DeepByRoles, weight_by}
-use Rattle.rb_weight_laws.specs.Laws.{EachTokenHasARole, RolesAreTold, WeightsAreThoseOfTheGrammar, FrontsHaveTheWeightsOfAnyProgram, ProgramsAreDeepByRoles, FrontsAreDeepByRoles}
+use Rattle.rb_weight_laws.specs.Laws.{RolesAreTold, WeightsAreThoseOfTheGrammar, FrontsHaveTheWeightsOfAnyProgram, FrontsAreDeepByRoles}
 use Rattle.rb_weight_laws.proofs.Steps.{told, Usual, Ends}
 use Rattle.rb_weight_laws.proofs.Steps.Ready.{Fresh}
 use Rattle.rb_weight_laws.proofs.Forms.{body}
@@ -25,7 +25,8 @@ roles-are-told tokens t d =
     let o : Open = record { level = level.Plain; standing = 0 } in
     same-told before.Plain (o ∷ []) tokens ∙ told-by-roles d ∙ append-nil (roles d)
 
-pub each-token-has-a-role : EachTokenHasARole
+-- the grammar gives a role to each token of a program
+each-token-has-a-role : (tokens : List Token) (t : Tree) (d : Derives tokens t) → length (roles d) ≡ length tokens
 each-token-has-a-role tokens t d = sym (ap (λ (rs : List Role). length rs) (roles-are-told tokens t d)) ∙ length-told (begun 0) tokens
 
 pub weights-are-those-of-the-grammar : WeightsAreThoseOfTheGrammar
@@ -58,7 +59,8 @@ from-roles tokens d at here same deep = record {
   first = λ k before. subst (λ (n : ℕ). n ≤ MOST) (sym (same k (omega arith))) (deep.first k before);
 }
 
-pub programs-are-deep-by-roles : ProgramsAreDeepByRoles
+-- at the same token of a program
+pub programs-are-deep-by-roles : (tokens : List Token) (t : Tree) (d : Derives tokens t) (at : ℕ) → DeepAt tokens 0 0 at ↔ DeepByRoles d at
 programs-are-deep-by-roles tokens t d at =
     let whole : length (roles d) ≡ length tokens = each-token-has-a-role tokens t d in
     let same = λ (k : ℕ) (le : k ≤ length tokens). weights-are-those-of-the-grammar tokens t d k in

@@ -27,11 +27,7 @@ abbrev pub roles_told : Nest → List Token → List Role
 roles_told n [] = []
 roles_told n (t ∷ ts) = role_of (effect_of n.before (innermost n.levels) (sort_of (shape_of t.kind))) ∷ roles_told (next (shape_of t.kind) n) ts
 
--- The grammar gives a role to each token of a program.
-abbrev pub EachTokenHasARole : Type 0
-EachTokenHasARole = (tokens : List Token) (t : Tree) (d : Derives tokens t) → length (roles d) ≡ length tokens
-
--- The pass tells each token's role.
+-- The pass tells each token's role: there are as many as tokens.
 abbrev pub RolesAreTold : Type 0
 RolesAreTold = (tokens : List Token) (t : Tree) (d : Derives tokens t) → roles_told (begun 0) tokens ≡ roles d
 
@@ -44,11 +40,7 @@ abbrev pub FrontsHaveTheWeightsOfAnyProgram : Type 0
 FrontsHaveTheWeightsOfAnyProgram =
     (tokens : List Token) (begins : Begins tokens) (k : ℕ) → k ≤ length tokens → weight_after 0 0 (take k tokens) ≡ weight_by (take k (roles begins.2))
 
--- The weight passes the greatest at the same token of a program.
-abbrev pub ProgramsAreDeepByRoles : Type 0
-ProgramsAreDeepByRoles = (tokens : List Token) (t : Tree) (d : Derives tokens t) (at : ℕ) → DeepAt tokens 0 0 at ↔ DeepByRoles d at
-
--- So it does where the tokens begin a program.
+-- The weight passes the greatest at the same token, where the tokens begin a program.
 abbrev pub FrontsAreDeepByRoles : Type 0
 FrontsAreDeepByRoles =
     (tokens : List Token) (begins : Begins tokens) (at : ℕ) → at < length tokens → DeepAt tokens 0 0 at ↔ DeepByRoles begins.2 at

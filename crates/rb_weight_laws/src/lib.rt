@@ -6,15 +6,10 @@
 #![tactic(auto)]
 
 ghost use Rattle.rb_weight_laws.specs.Examples.{BarsCountNot, BlockWeighs, BodyBeginsByIf, LoopOpensOnce, MethodWeighs, ModifierCounts, RescueDivides};
-ghost use Rattle.rb_weight_laws.specs.Laws.{EachTokenHasARole, FrontsAreDeepByRoles, FrontsHaveTheWeightsOfAnyProgram, ProgramsAreDeepByRoles, RolesAreTold, WeightsAreThoseOfTheGrammar};
+ghost use Rattle.rb_weight_laws.specs.Laws.{FrontsAreDeepByRoles, FrontsHaveTheWeightsOfAnyProgram, RolesAreTold, WeightsAreThoseOfTheGrammar};
 
-/// The derivation of a program gives as many roles as the program has tokens.
-pub fn roles_are_of_the_tokens()
-    ensures { EachTokenHasARole }
-{}
-
-/// What the pass does at each token of a program is what the token's role says: a modifier counts and opens nothing, the `do` of a
-/// loop opens nothing, the bars of a block do nothing, and so on.
+/// The derivation of a program gives a role to each token, and what the pass does at the token is what its role says: a modifier counts
+/// and opens nothing, the `do` of a loop opens nothing, the bars of a block do nothing, and so on.
 pub fn roles_are_told()
     ensures { RolesAreTold }
 {}
@@ -26,11 +21,10 @@ pub fn weights_are_those_of_the_grammar()
     ensures fronts { FrontsHaveTheWeightsOfAnyProgram }
 {}
 
-/// So the first token at which a program is too deep is the first after which the weight of the roles is too great. The same holds of
-/// tokens that begin a program.
+/// So the first token at which tokens that begin a program, or are one, are too deep is the first after which the weight of the roles is
+/// too great.
 pub fn depths_are_those_of_the_grammar()
-    ensures programs { ProgramsAreDeepByRoles }
-    ensures fronts { FrontsAreDeepByRoles }
+    ensures { FrontsAreDeepByRoles }
 {}
 
 /// A few programs with the roles of their tokens: with a modifier, with a loop and its `do`, with a block and its bars, and with an
