@@ -1,10 +1,9 @@
 -- No program begins with the tokens up to and with a refused one.
-use Rattle.std.proofs.Common.{◌≡◌, ℕ, ◌+◌, ◌<◌, List, [], ◌∷◌, ◌++◌, length, Ok, Err, subst, append_assoc, arith}
-use Rattle.rb_tree.specs.declared.token.Token.{Token}
+use Rattle.std.proofs.Common.{◌+◌, [], ◌∷◌, ◌++◌, length, subst, append_assoc, arith}
 use Rattle.rb_rules.specs.Grammar.{Derives}
 use Rattle.rb_grammar_laws.proofs.Answers.{programs-answer}
 use Rattle.rb_prefix_laws.proofs.Laws.{refusals-look-no-further}
-use Rattle.rb_refusal_laws.specs.BadPlaces.{NoProgramBeginsSo}
+use Rattle.rb_refusal_laws.specs.Laws.{NoProgramBeginsSo}
 
 pub no-program-begins-so : NoProgramBeginsSo
 no-program-begins-so before bad after e (more, t, derives) =

@@ -2,7 +2,7 @@
 use Rattle.std.proofs.Common.{◌≡◌, ℕ, ◌<◌, List, [], ◌∷◌, ◌++◌, length, refl, sym, ap, subst, ◌∙◌, append_assoc, arith}
 use Rattle.rb_tree.specs.declared.token.Token.{Token}
 use Rattle.rb_rules.specs.Grammar.{Derives, Begins, BadAt}
-use Rattle.rb_refusal_laws.specs.Laws.{OnePlace, OneFront, NoEndIsBad}
+use Rattle.rb_refusal_laws.specs.Laws.{OneFront, NoEndIsBad}
 
 -- each front of what begins a program begins one
 pub front-begins : (xs ys : List Token) → Begins (xs ++ ys) → Begins xs
@@ -52,7 +52,8 @@ same-bad tokens a b p q =
 pub one-front : OneFront
 one-front tokens a b p q = (same-bad tokens a b p q).0
 
-pub one-place : OnePlace
+-- so there is one place
+pub one-place : (tokens : List Token) (a b : ℕ) → BadAt tokens a → BadAt tokens b → a ≡ b
 one-place tokens a b p q = p.place ∙ ap (λ t. t.span.start) (same-bad tokens a b p q).1 ∙ sym q.place
 
 -- what begins a program has no bad token

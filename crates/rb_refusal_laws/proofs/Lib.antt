@@ -3,5 +3,4 @@ pub mod Places
 pub mod Refused
 pub mod Examples
 pub mod Begun
-pub mod BadPlaces
 pub mod NoneBegins

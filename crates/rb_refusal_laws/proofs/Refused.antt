@@ -11,7 +11,7 @@ use Rattle.rb_expr.specs.declared.ParseEnd.TheVariants.{Bad, TooDeep, NoMemory}
 use Rattle.rb_decl.specs.Programs.{program, parsed, whole, whole_of, cut, cut_of, parsed_by, token_start, end_of}
 use Rattle.rb_rules.specs.Grammar.{Begins, BadAt, EndsEarly}
 use Rattle.rb_grammar.proofs.Programs.{programs-derive}
-use Rattle.rb_refusal_laws.specs.Laws.{IsDeepAt, NoneBadBeforeDeep, BadTokensAreRefused, EarlyEndsAreRefused, SomeAreRefusedBefore, DeepTokensAreRefused}
+use Rattle.rb_refusal_laws.specs.Laws.{IsDeepAt, NoneBadBeforeDeep, BadTokensAreRefused, EarlyEndsAreRefused, DeepTokensAreRefused}
 use Rattle.rb_refusal_laws.proofs.Fronts.{begins-with, front-longer, none-bad, no-end-is-bad, one-place}
 use Rattle.rb_refusal_laws.proofs.Places.{answer, end-of-error, derived-begins, bad-token, bad-places-are-exact, deep-places-are-exact}
 
@@ -73,11 +73,8 @@ bad-refused tokens at p first (Err (Bad a)) e = ap (λ n. Err (Bad n)) (by (bad-
 bad-refused tokens at p first (Err (TooDeep a)) e = let d = deep-places-are-exact tokens a e in absurd (bad-after tokens a d.0 at d.1 p (first d.0 d.1.deep))
 bad-refused tokens at p first (Err NoMemory) e = absurd (has-memory tokens (first_too_deep tokens 0 0 0) e)
 
-pub some-are-refused-before : SomeAreRefusedBefore
-some-are-refused-before tokens at p first = bad-refused tokens at p first (parsed tokens) refl
-
 pub bad-tokens-are-refused : BadTokensAreRefused
-bad-tokens-are-refused tokens at light p = some-are-refused-before tokens at p (λ turn deep. absurd (light turn deep))
+bad-tokens-are-refused tokens at p first = bad-refused tokens at p first (parsed tokens) refl
 
 early-refused : (tokens : List Token) → ((turn : ℕ) → ¬ DeepAt tokens 0 0 turn) → EndsEarly tokens → (r : Result Tree ParseEnd) → parsed tokens ≡ r → r ≡ Err (Bad (end_of tokens))
 early-refused tokens light early (Ok t) e = absurd (early.none t (programs-derive tokens t e))

@@ -1,23 +1,23 @@
 -- The refused place is exactly the one that the grammar tells.
-use Rattle.std.specs.Prelude.{◌≡◌, ◌⊎◌, ℕ, ◌+◌, ◌<◌, ◌≤◌, List, length, take, slice_get, Err}
+use Rattle.std.specs.Prelude.{◌≡◌, ◌⊎◌, ℕ, ◌+◌, ◌<◌, ◌≤◌, List, [], ◌∷◌, ◌++◌, length, take, slice_get, Err}
 use Rattle.rb_tree.specs.declared.token.Token.{Token}
 use Rattle.rb_weight.specs.Weights.{DeepAt}
 use Rattle.rb_expr.specs.declared.ParseEnd.TheVariants.{Bad, TooDeep}
-use Rattle.rb_decl.specs.Programs.{parsed, token_start, end_of}
+use Rattle.rb_decl.specs.Programs.{program, parsed, token_start, end_of}
 use Rattle.rb_rules.specs.Grammar.{Begins, BadAt, EndsEarly}
 use Rattle.rb_grammar_laws.specs.Laws.{IsLight}
 
 -- ---- bad tokens
 
+-- No program begins with the tokens up to and with a refused one.
+abbrev pub NoProgramBeginsSo : Type 0
+NoProgramBeginsSo = (before : List Token) (bad : Token) (after : List Token) → program (length (before ++ bad ∷ after) + 2) (before ++ bad ∷ after) ≡ Err (bad ∷ after) → ¬ Begins (before ++ bad ∷ [])
+
 -- Where tokens are refused for what they are, and not for their depth, it is at the bad one, or at their end if they end too early.
 abbrev pub BadPlacesAreExact : Type 0
 BadPlacesAreExact = (tokens : List Token) (at : ℕ) → parsed tokens ≡ Err (Bad at) → BadAt tokens at ⊎ (EndsEarly tokens × (at ≡ end_of tokens))
 
--- There is one such place at most.
-abbrev pub OnePlace : Type 0
-OnePlace = (tokens : List Token) (a b : ℕ) → BadAt tokens a → BadAt tokens b → a ≡ b
-
--- One bad token at most: the tokens before it are the same.
+-- There is one bad token at most: the tokens before it are the same.
 abbrev pub OneFront : Type 0
 OneFront = (tokens : List Token) (a b : ℕ) (p : BadAt tokens a) (q : BadAt tokens b) → p.before ≡ q.before
 
@@ -44,17 +44,13 @@ NoneBadBeforeDeep = (tokens : List Token) (at turn bad : ℕ) → IsDeepAt token
 
 -- ---- what is refused
 
--- Tokens that nest too deep nowhere are refused at the bad one.
+-- Tokens are refused at the bad one if none before it is too deep.
 abbrev pub BadTokensAreRefused : Type 0
-BadTokensAreRefused = (tokens : List Token) (at : ℕ) → IsLight tokens → BadAt tokens at → parsed tokens ≡ Err (Bad at)
+BadTokensAreRefused = (tokens : List Token) (at : ℕ) (p : BadAt tokens at) → ((turn : ℕ) → DeepAt tokens 0 0 turn → length p.before ≤ turn) → parsed tokens ≡ Err (Bad at)
 
 -- Tokens that nest too deep nowhere and end too early are refused at their end.
 abbrev pub EarlyEndsAreRefused : Type 0
 EarlyEndsAreRefused = (tokens : List Token) → IsLight tokens → EndsEarly tokens → parsed tokens ≡ Err (Bad (end_of tokens))
-
--- The bad one is refused also where others nest too deep, if none before it does.
-abbrev pub SomeAreRefusedBefore : Type 0
-SomeAreRefusedBefore = (tokens : List Token) (at : ℕ) (p : BadAt tokens at) → ((turn : ℕ) → DeepAt tokens 0 0 turn → length p.before ≤ turn) → parsed tokens ≡ Err (Bad at)
 
 -- Tokens are refused for their depth where those up to and with the first deep one begin a program.
 abbrev pub DeepTokensAreRefused : Type 0

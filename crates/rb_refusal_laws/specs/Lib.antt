@@ -1,4 +1,3 @@
 pub mod Laws
 pub mod Examples
-pub mod BadPlaces
 pub mod NoneBegins

@@ -4,9 +4,8 @@
 //! is said of tokens that begin a program and are none.
 #![tactic(auto)]
 
-ghost use Rattle.rb_refusal_laws.specs.BadPlaces.{BadPlaces, NoProgramBeginsSo};
 ghost use Rattle.rb_refusal_laws.specs.Examples.{BracketIsBad, LoopIsBad, NameIsAwaited};
-ghost use Rattle.rb_refusal_laws.specs.Laws.{BadPlacesAreExact, BadTokensAreRefused, DeepPlacesAreExact, DeepTokensAreRefused, EarlyEndsAreRefused, NoEndIsBad, NoneBadBeforeDeep, OneFront, OnePlace, SomeAreRefusedBefore};
+ghost use Rattle.rb_refusal_laws.specs.Laws.{BadPlacesAreExact, BadTokensAreRefused, DeepPlacesAreExact, DeepTokensAreRefused, EarlyEndsAreRefused, NoEndIsBad, NoProgramBeginsSo, NoneBadBeforeDeep, OneFront};
 ghost use Rattle.rb_refusal_laws.specs.NoneBegins.{NoneIsClosed, NoneIsNameless, NoneLoopsSo, NoneNamesTwice, NoneRescuesSo};
 
 /// No program begins with the tokens up to and with a refused one.
@@ -14,19 +13,13 @@ pub fn no_program_begins_so()
     ensures { NoProgramBeginsSo }
 {}
 
-/// The place of a refusal is that of a token with which no program goes on, or the end of tokens that are no program.
-pub fn bad_places()
-    ensures { BadPlaces }
-{}
-
 /// Where tokens are refused for what they are, it is at the bad token, or at their end if they end too early.
 pub fn bad_places_are_exact()
     ensures { BadPlacesAreExact }
 {}
 
-/// There is one such token at most, and none where tokens end too early.
-pub fn one_place()
-    ensures place { OnePlace }
+/// There is one such token at most, so one such place, and none where tokens end too early.
+pub fn one_bad_token()
     ensures front { OneFront }
     ensures ends { NoEndIsBad }
 {}
@@ -38,12 +31,11 @@ pub fn deep_places_are_exact()
     ensures none { NoneBadBeforeDeep }
 {}
 
-/// Tokens that nest too deep nowhere are refused at the bad one, or at their end if they end too early. The bad one is refused also
-/// where tokens after it nest too deep.
+/// Tokens are refused at the bad one if none before it is too deep, also where it or one after it is. Tokens that end too early and nest
+/// too deep nowhere are refused at their end.
 pub fn bad_tokens_are_refused()
     ensures tokens { BadTokensAreRefused }
     ensures ends { EarlyEndsAreRefused }
-    ensures before { SomeAreRefusedBefore }
 {}
 
 /// Tokens are refused for their depth where those up to and with the first deep one begin a program.

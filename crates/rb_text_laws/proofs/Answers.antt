@@ -13,7 +13,7 @@ use Rattle.rb_lex_laws.specs.Tokens.{StandInOrder}
 use Rattle.rb_lex_laws.proofs.Standing.{tokens-stand}
 use Rattle.rb_lex_laws.proofs.Told.{tokens-told, outside-told, bad-told}
 use Rattle.rb_grammar_laws.proofs.Answers.{parsed-exactly}
-use Rattle.rb_refusal_laws.proofs.Refused.{some-are-refused-before, early-ends-are-refused, deep-tokens-are-refused}
+use Rattle.rb_refusal_laws.proofs.Refused.{bad-tokens-are-refused, early-ends-are-refused, deep-tokens-are-refused}
 use Rattle.rb_rules.specs.Grammar.{Begins, BadAt}
 use Rattle.rb_rules.specs.Lexes.{Lexes}
 use Rattle.rb_rules.specs.Tokens.{IsOneOf}
@@ -66,7 +66,7 @@ bad-token : (text : List ℕ) (tokens : List Token) (at : ℕ) (span : Span) →
 bad-token text tokens at span l bad shallow shown =
     let first = λ (turn : ℕ) (d : DeepAt tokens 0 0 turn).
     after-light bad.before (bad.bad ∷ bad.after) bad.begins shallow turn (subst (λ (ts : List Token). DeepAt ts 0 0 turn) bad.whole d) in
-    of-tokens text tokens (Err (parse.Bad at)) (Verdict.NoRuby span) l (some-are-refused-before tokens at bad first) (span, refl, inl shown)
+    of-tokens text tokens (Err (parse.Bad at)) (Verdict.NoRuby span) l (bad-tokens-are-refused tokens at bad first) (span, refl, inl shown)
 
 no-ruby : (text : List ℕ) (span : Span) → IsNoRuby text span → OfLexed text (lexed_text text) (Verdict.NoRuby span)
 no-ruby text _ (IsNoRuby.AtCharacter at span bad shown) = of-lexed text (Err (lex.Bad at)) (Verdict.NoRuby span) ((bad-told text at).1 bad) (span, refl, shown)

@@ -4,7 +4,7 @@ use Rattle.rb_tree.specs.declared.token.Token.{Token}
 use Rattle.rb_expr.specs.declared.ParseEnd.TheVariants.{Bad, TooDeep}
 use Rattle.rb_decl.specs.Programs.{parsed, token_start}
 use Rattle.rb_rules.specs.Grammar.{Begins}
-use Rattle.rb_refusal_laws.proofs.Refused.{some-are-refused-before, deep-tokens-are-refused}
+use Rattle.rb_refusal_laws.proofs.Refused.{bad-tokens-are-refused, deep-tokens-are-refused}
 use Rattle.rb_verdict_laws.specs.Laws.{LesserPlacesAreRefused, StandInOrder}
 use Rattle.rb_verdict_laws.proofs.Depths.{fronts-begin, got-after, one-deep, order}
 
@@ -47,7 +47,7 @@ lesser-places-are-refused tokens from bad turn deep stand p d got = (
         go (inr h) = g h
 
     bad-refused : length p.before ≤ turn → parsed tokens ≡ Err (Bad bad)
-    bad-refused le = some-are-refused-before tokens bad p (λ k e. let same : turn ≡ k = one-deep tokens turn k d e in omega arith)
+    bad-refused le = bad-tokens-are-refused tokens bad p (λ k e. let same : turn ≡ k = one-deep tokens turn k d e in omega arith)
 
     deep-refused : turn < length p.before → parsed tokens ≡ Err (TooDeep deep.span.start)
     deep-refused later =

@@ -13,7 +13,7 @@ use Rattle.rb_weight_laws.proofs.Laws.{programs-are-deep-by-roles, fronts-are-de
 use Rattle.rb_grammar_laws.proofs.Answers.{parsed-exactly}
 use Rattle.rb_refusal_laws.proofs.Fronts.{one-front, no-end-is-bad}
 use Rattle.rb_refusal_laws.proofs.Places.{answer, end-of-error, bad-places-are-exact, deep-places-are-exact}
-use Rattle.rb_refusal_laws.proofs.Refused.{some-are-refused-before, early-ends-are-refused, deep-tokens-are-refused}
+use Rattle.rb_refusal_laws.proofs.Refused.{bad-tokens-are-refused, early-ends-are-refused, deep-tokens-are-refused}
 use Rattle.rb_verdict_laws.specs.Verdicts.{Verdict, Holds, IsProgram, IsBadToken, IsShort, IsDeepToken, start_at}
 use Rattle.rb_verdict_laws.specs.Laws.{OneHolds, NoTwoHold, VerdictsAreAnswered, Says, AnswersHold}
 use Rattle.rb_verdict_laws.proofs.Depths.{order, deep-further, deep-nearer, fronts-begin, got-after, light-by-pass, light-by-roles, one-deep}
@@ -44,7 +44,7 @@ program-answered tokens t v = (parsed-exactly tokens t).1 (v.derives, λ turn d.
 
 bad-answered : (tokens : List Token) (turn : ℕ) → IsBadToken tokens turn → parsed tokens ≡ Err (Bad (start_at tokens turn))
 bad-answered tokens turn v =
-    some-are-refused-before tokens (start_at tokens turn) v.bad (bad-first tokens (start_at tokens turn) v.bad (light-by-pass v.bad.before v.bad.begins v.light))
+    bad-tokens-are-refused tokens (start_at tokens turn) v.bad (bad-first tokens (start_at tokens turn) v.bad (light-by-pass v.bad.before v.bad.begins v.light))
 
 short-answered : (tokens : List Token) → IsShort tokens → parsed tokens ≡ Err (Bad (end_of tokens))
 short-answered tokens v = early-ends-are-refused tokens (light-by-pass tokens v.early.begins v.light) v.early
