@@ -5,12 +5,12 @@ use Rattle.rb_tree.specs.declared.token.Token.{Token}
 use Rattle.rb_expr.specs.Grammar.{parsed}
 use Rattle.rb_expr.specs.Reading.{Outcome}
 use Rattle.rb_expr.specs.declared.form.Form.{Form}
-use Rattle.rb_prefix_laws.specs.Laws.{FormsAreRefusedAlike, FormsAreRefusedSooner, FormsEndAlike, FormsNeedNoMoreDepth, RefusalsLookNoFurther, ProgramsNeedNoMoreDepth, RefusalsAreEnds}
+use Rattle.rb_prefix_laws.specs.Laws.{FormsAreRefusedAlike, FormsAreRefusedSooner, FormsEndAlike, FormsNeedNoMoreDepth, RefusalsLookNoFurther, ProgramsNeedNoMoreDepth}
 use Rattle.rb_prefix_laws.proofs.Steps.{Alike, rest_of, instead, fits-turns}
 use Rattle.rb_prefix_laws.proofs.Steps.Amount.{any}
 use Rattle.rb_prefix_laws.proofs.Cuts.{Cut}
 use Rattle.rb_prefix_laws.proofs.Forms.{nests}
-use Rattle.rb_prefix_laws.proofs.Programs.{again-same, again-other, same-program, refused-alike, refusal-ends}
+use Rattle.rb_prefix_laws.proofs.Programs.{again-same, again-other, same-program, refused-alike}
 
 -- ---- forms
 
@@ -60,6 +60,3 @@ refusals-look-no-further depth other before bad after others a b e =
     let deep' : length (before ++ bad ∷ others) < depth + other = omega arith in
     same-program other (depth + other) (before ++ bad ∷ others) b deep'
     ∙ refused-alike (depth + other) before bad after others deep deep' (same-program (depth + other) depth (before ++ bad ∷ after) deep a ∙ e)
-
-pub refusals-are-ends : RefusalsAreEnds
-refusals-are-ends depth tokens rest less e = refusal-ends depth tokens rest less e

@@ -54,15 +54,3 @@ unfolding program
 refused-alike d before bad after others a b e =
     let r = refused-rest (statements (item d true) d (before ++ bad ∷ after)) bad after others e in
     ap program_of (again-other d before bad after others (statements (item d true) d (before ++ bad ∷ after)) (statements (item d true) d) (all-alike d d d (omega arith) (omega arith) (before ++ bad ∷ after)) a b r.0) ∙ r.1
-
--- what is refused is an end
-refused-end : (o : Outcome (List Tree)) (rest : List Token) → program_of o ≡ Err rest → rest_of o ≡ rest
-refused-end (Ok (found, [])) rest e = absurd (cc)
-refused-end (Ok (found, u ∷ vs)) rest e = cc
-refused-end (Err us) rest e = cc
-
-pub refusal-ends : (d : ℕ) (tokens rest : List Token) → length tokens < d → program d tokens ≡ Err rest → (before : List Token) × (tokens ≡ before ++ rest)
-unfolding program
-refusal-ends d tokens rest less e =
-    let r = (all-alike d d d (omega arith) (omega arith) tokens).runs less in
-    (r.front, r.reads ∙ ap (λ us. r.front ++ us) (refused-end (statements (item d true) d tokens) rest e))

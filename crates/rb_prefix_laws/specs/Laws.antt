@@ -51,7 +51,3 @@ RefusalsLookNoFurther = (depth other : ℕ) (before : List Token) (bad : Token) 
 
 abbrev pub ProgramsNeedNoMoreDepth : Type 0
 ProgramsNeedNoMoreDepth = (depth other : ℕ) (tokens : List Token) → length tokens < depth → length tokens < other → program depth tokens ≡ program other tokens
-
--- What is refused is an end of the tokens.
-abbrev pub RefusalsAreEnds : Type 0
-RefusalsAreEnds = (depth : ℕ) (tokens rest : List Token) → length tokens < depth → program depth tokens ≡ Err rest → (before : List Token) × (tokens ≡ before ++ rest)

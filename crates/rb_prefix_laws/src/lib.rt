@@ -5,7 +5,7 @@
 #![tactic(auto)]
 
 ghost use Rattle.rb_prefix_laws.specs.Examples.{ShallowLooksFurther};
-ghost use Rattle.rb_prefix_laws.specs.Laws.{FormsAreRefusedAlike, FormsAreRefusedSooner, FormsEndAlike, FormsNeedNoMoreDepth, ProgramsNeedNoMoreDepth, RefusalsAreEnds, RefusalsLookNoFurther};
+ghost use Rattle.rb_prefix_laws.specs.Laws.{FormsAreRefusedAlike, FormsAreRefusedSooner, FormsEndAlike, FormsNeedNoMoreDepth, ProgramsNeedNoMoreDepth, RefusalsLookNoFurther};
 
 /// A form is refused at the same token, or read to the same end, whatever stands after that token. A depth that is enough for the
 /// tokens plays no part. Where it is refused at a token, it is refused too if the tokens end before that.
@@ -20,7 +20,6 @@ pub fn forms_look_no_further()
 pub fn refusals_look_no_further()
     ensures refused { RefusalsLookNoFurther }
     ensures depth { ProgramsNeedNoMoreDepth }
-    ensures ends { RefusalsAreEnds }
 {}
 
 /// Why the depth must be enough.

@@ -1,4 +1,4 @@
-use Rattle.rb_prefix_laws.proofs.Laws.{refusals-look-no-further, programs-need-no-more-depth, refusals-are-ends}
+use Rattle.rb_prefix_laws.proofs.Laws.{refusals-look-no-further, programs-need-no-more-depth}
 use Rattle.rb_prefix_laws.proofs.refusals_look_no_further.Goals as goal
 
 pub returns-clause-refused : goal.returns-clause-refused
@@ -6,6 +6,3 @@ returns-clause-refused c = refusals-look-no-further
 
 pub returns-clause-depth : goal.returns-clause-depth
 returns-clause-depth c = programs-need-no-more-depth
-
-pub returns-clause-ends : goal.returns-clause-ends
-returns-clause-ends c = refusals-are-ends
