@@ -1,17 +1,12 @@
 -- What is read before a refusal begins what was to be read.
-use Rattle.std.proofs.Common.{◌≡◌, ℕ, ◌+◌, true, List, [], ◌∷◌, ◌++◌, length, Option, Some, None, Result, Ok, Err, refl, sym, ap, subst, ◌∙◌, append_assoc}
-use Rattle.std.proofs.lemmas.List.{append_cancel_right, take-append-drop}
-use Rattle.std.specs.Prelude.{take, drop, slice_get}
-use Rattle.rb_tree.specs.declared.syntax.Tree.{Tree}
+use Rattle.std.proofs.Common.{◌≡◌, ℕ, true, List, [], ◌++◌, Err, refl, sym, ap, subst, ◌∙◌}
+use Rattle.std.proofs.lemmas.List.{append_cancel_right}
 use Rattle.rb_tree.specs.declared.token.Token.{Token}
 use Rattle.rb_expr.specs.Reading.{Outcome}
-use Rattle.rb_expr.specs.declared.ParseEnd.{ParseEnd}
-use Rattle.rb_expr.specs.declared.ParseEnd.TheVariants.{Bad, TooDeep}
-use Rattle.rb_weight.specs.Scans.{first_too_deep}
-use Rattle.rb_decl.specs.Programs.{place_of, program, whole, cut, token_start}
+use Rattle.rb_decl.specs.Programs.{program}
 use Rattle.rb_rules.specs.Forms.{Top}
 use Rattle.rb_rules.specs.Grammar.{Begins, DerivesBody}
-use Rattle.rb_completion_laws.specs.Laws.{Begun, RefusedFrontsBegin, RefusalsAreEnds, BadFrontsBegin, TermsBegin, StatementsBegin, BodiesBegin}
+use Rattle.rb_completion_laws.specs.Laws.{Begun, RefusedFrontsBegin, RefusalsAreEnds, TermsBegin, StatementsBegin, BodiesBegin}
 use Rattle.rb_completion_laws.proofs.Steps.{Rel, Completes, Plain}
 use Rattle.rb_completion_laws.proofs.Forms.{a-term-goes, a-statement-goes, a-body-goes}
 use Rattle.rb_completion_laws.proofs.Programs.{program-completes}
@@ -34,47 +29,6 @@ fronts-begin d before rest e =
 
 pub refusals-are-ends : RefusalsAreEnds
 refusals-are-ends d tokens rest e = let f = front d tokens rest e in (f.0, f.1)
-
-abbrev Placed : List Token → ℕ → Type 0
-Placed tokens at = (before rest : List Token) × (tokens ≡ before ++ rest) × (at ≡ place_of tokens rest) × Begins before
-
-abbrev whole_by : List Token → Result Tree (List Token) → Result Tree ParseEnd
-whole_by tokens (Ok t) = Ok t
-whole_by tokens (Err rest) = Err (Bad (place_of tokens rest))
-
-whole-by : (tokens : List Token) (r : Result Tree (List Token)) (at : ℕ) → ((rest : List Token) → r ≡ Err rest → Front tokens rest) → whole_by tokens r ≡ Err (Bad at) → Placed tokens at
-whole-by tokens (Ok t) at h e = absurd (cc)
-whole-by tokens (Err rest) at h e = let f = h rest refl in let is : place_of tokens rest ≡ at = cc in (f.0, rest, f.1, sym is, f.2)
-
-whole-placed : (tokens : List Token) (at : ℕ) → whole tokens ≡ Err (Bad at) → Placed tokens at
-unfolding whole
-whole-placed tokens at e = whole-by tokens (program (length tokens + 2) tokens) at (λ rest f. front (length tokens + 2) tokens rest f) e
-
-abbrev cut_by : ℕ → Result Tree (List Token) → ParseEnd
-cut_by last (Err (t ∷ ts)) = Bad t.span.start
-cut_by last (Err []) = TooDeep last
-cut_by last (Ok t) = TooDeep last
-
--- where the tokens end after one that nests too deep
-cut-placed-by : (tokens some after : List Token) (last at : ℕ) (r : Result Tree (List Token)) → tokens ≡ some ++ after → ((rest : List Token) → r ≡ Err rest → Front some rest) → cut_by last r ≡ Bad at → Placed tokens at
-cut-placed-by tokens some after last at (Ok t) w h e = absurd (cc)
-cut-placed-by tokens some after last at (Err []) w h e = absurd (cc)
-cut-placed-by tokens some after last at (Err (t ∷ ts)) w h e =
-    let f = h (t ∷ ts) refl in
-    let is : t.span.start ≡ at = cc in
-    (f.0, t ∷ (ts ++ after), w ∙ ap (λ us. us ++ after) f.1 ∙ append_assoc f.0 (t ∷ ts) after, sym is, f.2)
-
-cut-placed : (tokens some after : List Token) (last at : ℕ) → tokens ≡ some ++ after → cut last some ≡ Bad at → Placed tokens at
-unfolding cut
-cut-placed tokens some after last at w e = cut-placed-by tokens some after last at (program (length some + 2) some) w (λ rest f. front (length some + 2) some rest f) e
-
-parsed-by : (tokens : List Token) (deep : Option ℕ) (at : ℕ) → (elim deep as (λ o. Result Tree ParseEnd) [ None ↦ whole tokens | Some k ↦ Err (cut (token_start (slice_get tokens k)) (take (k + 1) tokens)) ]) ≡ Err (Bad at) → Placed tokens at
-parsed-by tokens None at e = whole-placed tokens at e
-parsed-by tokens (Some k) at e = let is : cut (token_start (slice_get tokens k)) (take (k + 1) tokens) ≡ Bad at = cc in
-    cut-placed tokens (take (k + 1) tokens) (drop (k + 1) tokens) (token_start (slice_get tokens k)) at (sym (take-append-drop (k + 1) tokens)) is
-
-pub bad-fronts-begin : BadFrontsBegin
-bad-fronts-begin tokens at e = parsed-by tokens (first_too_deep tokens 0 0 0) at e
 
 -- ---- forms
 

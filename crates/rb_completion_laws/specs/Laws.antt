@@ -2,9 +2,8 @@
 use Rattle.std.specs.Prelude.{◌≡◌, ℕ, true, List, ◌++◌, Err}
 use Rattle.rb_tree.specs.declared.syntax.Tree.{Tree}
 use Rattle.rb_tree.specs.declared.token.Token.{Token}
-use Rattle.rb_expr.specs.declared.ParseEnd.TheVariants.{Bad}
 use Rattle.rb_expr.specs.Rules.{statement, longest_body, tern}
-use Rattle.rb_decl.specs.Programs.{place_of, program, parsed}
+use Rattle.rb_decl.specs.Programs.{program}
 use Rattle.rb_rules.specs.Forms.{Site, is_open}
 use Rattle.rb_rules.specs.Grammar.{Begins, DerivesBody, DerivesStatement, DerivesTerm}
 use Rattle.rb_completion_laws.specs.After.{Clear}
@@ -19,10 +18,6 @@ RefusedFrontsBegin = (d : ℕ) (before rest : List Token) → program d (before 
 -- What a refusal leaves is an end of the tokens.
 abbrev pub RefusalsAreEnds : Type 0
 RefusalsAreEnds = (d : ℕ) (tokens rest : List Token) → program d tokens ≡ Err rest → (before : List Token) × (tokens ≡ before ++ rest)
-
--- The place that is answered of a program that is bad: the tokens before it begin a program.
-abbrev pub BadFrontsBegin : Type 0
-BadFrontsBegin = (tokens : List Token) (at : ℕ) → parsed tokens ≡ Err (Bad at) → (before rest : List Token) × (tokens ≡ before ++ rest) × (at ≡ place_of tokens rest) × Begins before
 
 -- ---- forms
 

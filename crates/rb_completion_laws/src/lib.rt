@@ -5,17 +5,12 @@
 #![tactic(auto)]
 
 ghost use Rattle.rb_completion_laws.specs.Examples.{EndRefused, GuardRefused, LoopRefused, NameRefused, SignRefused};
-ghost use Rattle.rb_completion_laws.specs.Laws.{BadFrontsBegin, BodiesBegin, RefusalsAreEnds, RefusedFrontsBegin, StatementsBegin, TermsBegin};
+ghost use Rattle.rb_completion_laws.specs.Laws.{BodiesBegin, RefusalsAreEnds, RefusedFrontsBegin, StatementsBegin, TermsBegin};
 
 /// Where a program is refused, the tokens before the refused one begin a program; where tokens end too early, all of them do.
 pub fn refused_fronts_begin()
     ensures fronts { RefusedFrontsBegin }
     ensures ends { RefusalsAreEnds }
-{}
-
-/// The tokens before the place that `rb_decl` answers of a bad program begin a program.
-pub fn bad_fronts_begin()
-    ensures { BadFrontsBegin }
 {}
 
 /// The tokens before the one at which a term, a statement or a body is refused begin one.
