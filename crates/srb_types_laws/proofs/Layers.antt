@@ -1,7 +1,7 @@
 -- Whether a type is arranged and cut goes by its layer.
-use Rattle.std.proofs.Common.{◌≡◌, ℕ, ◌-◌, Bool, true, false, ◌&&◌, List, [], ◌∷◌, map, refl, ap, sym, ◌∙◌, nat_eq, if◌then◌else◌}
+use Rattle.std.proofs.Common.{◌≡◌, ℕ, Bool, ◌&&◌, List, [], ◌∷◌, map, refl, ap, sym, ◌∙◌}
 use Rattle.std.specs.List.{list_all}
-use Rattle.srb_terms.specs.declared.ty.Ty.{Ty, out-Ty, para-Ty}
+use Rattle.srb_terms.specs.declared.ty.Ty.{Ty, out-Ty}
 use Rattle.srb_terms.specs.declared.ty.Ty.TheOpen.{Ty-F}
 use Rattle.srb_terms.specs.declared.ty.Ty.TheViews.{roll-Ty, roll-out-Ty}
 use Rattle.srb_terms.specs.declared.ty.Ty.TheFolds.{map-Ty, para-roll-Ty}

@@ -2,3 +2,5 @@ pub mod Orders
 pub mod Lists
 pub mod Layers
 pub mod Parts
+pub mod Joined
+pub mod Left

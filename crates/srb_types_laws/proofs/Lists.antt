@@ -1,9 +1,9 @@
 -- Lists in order, and lists whose elements are apart, with one more element or with some left out.
-use Rattle.std.proofs.Common.{◌≡◌, ℕ, ◌⊎◌, Bool, true, false, not, cond, ◌&&◌, ◌||◌, List, [], ◌∷◌, refl, sym, ap, ◌∙◌, inl, inr, if◌then◌else◌}
+use Rattle.std.proofs.Common.{◌≡◌, ℕ, Bool, true, false, not, cond, ◌&&◌, ◌||◌, List, [], ◌∷◌, refl, ap, if◌then◌else◌}
 use Rattle.std.specs.Bool.{IsTrue}
 use Rattle.std.specs.List.{filter, list_all, list_any}
 use Rattle.srb_types.specs.Order.{is_before, before_all, placed}
-use Rattle.srb_shapes_laws.proofs.Bools.{either, and-both, and-first, and-second, and-map, and-fails, by-test}
+use Rattle.srb_shapes_laws.proofs.Bools.{either, and-both, and-first, and-second, and-map, and-fails}
 use Rattle.srb_types_laws.specs.NormalForms.{in_order, is_apart, all_apart}
 use Rattle.srb_types_laws.proofs.Orders.{Upto, upto-itself, upto-chain, upto-before}
 

@@ -1,5 +1,5 @@
 -- The parts of types in normal form, and the type that has some parts.
-use Rattle.std.proofs.Common.{◌≡◌, ℕ, ◌⊎◌, Bool, true, false, not, cond, ◌&&◌, ◌||◌, List, [], ◌∷◌, map, refl, sym, ap, subst, ◌∙◌, if◌then◌else◌}
+use Rattle.std.proofs.Common.{◌≡◌, Bool, true, false, not, ◌&&◌, ◌||◌, List, [], ◌∷◌, map, refl, sym, ap, subst, ◌∙◌, if◌then◌else◌}
 use Rattle.std.specs.Bool.{IsTrue}
 use Rattle.std.specs.List.{filter, list_all, list_any}
 use Rattle.srb_terms.specs.declared.ty.Ty.{Ty, out-Ty}
@@ -10,13 +10,13 @@ use Rattle.srb_shapes.specs.Comparing.{lies_in}
 use Rattle.srb_shapes.specs.Lineages.{Lineage}
 use Rattle.srb_shapes.specs.Parts.{of_parts, parts_at, parts_of}
 use Rattle.srb_shapes.specs.Shapes.{fits_at, fits}
-use Rattle.srb_shapes_laws.proofs.Bools.{either, and-both, and-first, and-second, by-test, or-cases}
+use Rattle.srb_shapes_laws.proofs.Bools.{and-both, and-first, and-second}
 use Rattle.srb_shapes_laws.proofs.Equations.{fits_roll}
 use Rattle.srb_types.specs.Normal.{is_untyped_at, is_untyped, one_untyped, with_part, with_parts, any_of}
 use Rattle.srb_types.specs.Order.{placed}
 use Rattle.srb_types.specs.Shown.{shown}
 use Rattle.srb_types_laws.specs.NormalForms.{in_order, is_apart, all_apart, has_several, is_part, is_part_at, are_apart, is_arranged_at, is_arranged, is_cut_at, is_cut, IsNormal}
-use Rattle.srb_types_laws.proofs.Lists.{all-map, all-both, none-passes, all-filtered, filtered-pass, ordered-filtered, apart-filtered, all-placed, ordered-placed, apart-placed}
+use Rattle.srb_types_laws.proofs.Lists.{all-both, none-passes, all-filtered, filtered-pass, ordered-filtered, apart-filtered, all-placed, ordered-placed, apart-placed}
 use Rattle.srb_types_laws.proofs.Layers.{same-list, arranged_roll, arranged_is, cut_roll, cut_is, fits_is}
 
 -- a part by itself
@@ -47,13 +47,13 @@ union-fine : (L : Lineage) (ps : List Ty) → IsTrue (fits_at (λ t. t) (fits L)
 union-fine L ps fit arranged cut = let
     rest = and-second (list_all (is_arranged L) ps) _ arranged in let
     last = and-second (has_several ps) _ (and-second (list_all is_part (map (λ t. t) ps)) _ rest) in record {
-  fitting = fit;
-  arranged = and-first _ _ arranged;
-  shallow = cut;
-  parts = subst (λ qs. IsTrue (list_all is_part qs)) (same-list ps) (and-first _ _ rest);
-  ordered = subst (λ qs. IsTrue (in_order shown qs)) (same-list ps) (and-first _ _ last);
-  apart = subst (λ qs. IsTrue (all_apart (lies_in L) qs)) (same-list ps) (and-second (in_order shown (map (λ t. t) ps)) _ last);
-}
+      fitting = fit;
+      arranged = and-first _ _ arranged;
+      shallow = cut;
+      parts = subst (λ qs. IsTrue (list_all is_part qs)) (same-list ps) (and-first _ _ rest);
+      ordered = subst (λ qs. IsTrue (in_order shown qs)) (same-list ps) (and-first _ _ last);
+      apart = subst (λ qs. IsTrue (all_apart (lies_in L) qs)) (same-list ps) (and-second (in_order shown (map (λ t. t) ps)) _ last);
+    }
 
 pub parts-fine : (L : Lineage) (t : Ty) → IsNormal L t → is_untyped t ≡ false → IsFine L (parts_of t)
 unfolding parts_of

@@ -1,9 +1,47 @@
--- What the operations on types do to their shapes, and that their answers are in normal form.
+-- What the operations on types do to their shapes, and that their answers are in normal form. In each law every shape belongs to
+-- `T.untyped`, and the unknown one to it alone, where nothing else is said.
+use Rattle.std.specs.Prelude.{◌≡◌, ◌⊎◌, ◌↔◌, true, false, ◌||◌, List, [], ◌∷◌, IsTrue}
 use Rattle.srb_terms.specs.declared.ty.Ty.{Ty}
-use Rattle.srb_shapes.specs.Lineages.{Lineage}
-use Rattle.srb_types.specs.Normal.{any_of}
+use Rattle.srb_shapes.specs.Lineages.{Lineage, IsLineage}
+use Rattle.srb_shapes.specs.Parts.{parts_of}
+use Rattle.srb_shapes.specs.Shapes.{Shape, IsShape, belongs, IsSubtype}
+use Rattle.srb_types.specs.Normal.{any_of, is_untyped, without_of}
 use Rattle.srb_types_laws.specs.NormalForms.{IsNormal}
+
+-- one of these types
+abbrev pub Among : Ty → List Ty → Type 0
+Among t [] = ⊥
+Among t (u ∷ us) = (u ≡ t) ⊎ Among t us
+
+-- ---- unions
 
 -- `T.any` of two types in normal form is in normal form
 abbrev pub UnionsAreNormal : Type 0
 UnionsAreNormal = (L : Lineage) (t u : Ty) → IsNormal L t → IsNormal L u → IsNormal L (any_of L t u)
+
+-- a shape belongs to `T.any` of two types exactly where it belongs to one of them
+abbrev pub UnionsHaveTheShapesOfBoth : Type 0
+UnionsHaveTheShapesOfBoth =
+    (L : Lineage) (t u : Ty) (s : Shape) → IsLineage L → IsShape true L s
+    → belongs true L (any_of L t u) s ≡ (belongs true L t s || belongs true L u s)
+
+-- ---- what is left of a type
+
+-- a type in normal form without the subtypes of another is in normal form
+abbrev pub WhatIsLeftIsNormal : Type 0
+WhatIsLeftIsNormal = (L : Lineage) (t u : Ty) → IsNormal L t → IsNormal L (without_of L t u)
+
+-- the parts that are left are exactly those that are no subtypes of the other type, by their shapes; of `T.untyped` all is left
+abbrev pub SubtypesAreLeftOut : Type 0
+SubtypesAreLeftOut =
+    (L : Lineage) (t u : Ty) → IsLineage L → IsNormal L t
+    → (is_untyped t ≡ true → without_of L t u ≡ t)
+    × (is_untyped t ≡ false → (p : Ty) → Among p (parts_of (without_of L t u)) ↔ (Among p (parts_of t) × (IsSubtype L p u → ⊥)))
+
+-- each shape that is left was there, and those that aren't in the other type are all left, where `T.untyped` has no shape in the first type
+-- and every shape in the other
+abbrev pub OtherShapesAreLeft : Type 0
+OtherShapesAreLeft =
+    (L : Lineage) (t u : Ty) (s : Shape) → IsLineage L → IsShape false L s
+    → (IsTrue (belongs false L (without_of L t u) s) → IsTrue (belongs false L t s))
+    × (IsTrue (belongs false L t s) → belongs true L u s ≡ false → IsTrue (belongs false L (without_of L t u) s))

@@ -1,9 +1,18 @@
 //! What the operations on types mean: which shapes their answers have, and that these are in normal form.
 #![tactic(auto)]
 
-ghost use Rattle.srb_types_laws.specs.Laws.{UnionsAreNormal};
+ghost use Rattle.srb_types_laws.specs.Laws.{OtherShapesAreLeft, SubtypesAreLeftOut, UnionsAreNormal, UnionsHaveTheShapesOfBoth, WhatIsLeftIsNormal};
 
-/// `T.any` of two types in normal form is in normal form.
-pub fn unions_are_normal()
-    ensures { UnionsAreNormal }
+/// `T.any` of two types in normal form is in normal form, and has exactly the shapes of both.
+pub fn unions_join_shapes()
+    ensures normal { UnionsAreNormal }
+    ensures shapes { UnionsHaveTheShapesOfBoth }
+{}
+
+/// What is left of a type in normal form without the subtypes of another is in normal form. It has the parts that are no subtypes, and the
+/// shapes that the other type doesn't have.
+pub fn subtypes_are_left_out()
+    ensures normal { WhatIsLeftIsNormal }
+    ensures parts { SubtypesAreLeftOut }
+    ensures shapes { OtherShapesAreLeft }
 {}
