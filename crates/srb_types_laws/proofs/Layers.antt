@@ -4,11 +4,12 @@ use Rattle.std.specs.List.{list_all}
 use Rattle.srb_terms.specs.declared.ty.Ty.{Ty, out-Ty}
 use Rattle.srb_terms.specs.declared.ty.Ty.TheOpen.{Ty-F}
 use Rattle.srb_terms.specs.declared.ty.Ty.TheViews.{roll-Ty, roll-out-Ty}
-use Rattle.srb_terms.specs.declared.ty.Ty.TheFolds.{map-Ty, para-roll-Ty}
+use Rattle.srb_terms.specs.declared.ty.Ty.TheFolds.{map-Ty, fold-roll-Ty, para-roll-Ty}
 use Rattle.srb_shapes.specs.Lineages.{Lineage}
 use Rattle.srb_shapes.specs.Shapes.{fits_at, fits}
 use Rattle.srb_shapes.proofs.Steps.{all-mapped}
 use Rattle.srb_shapes_laws.proofs.Equations.{fits_roll}
+use Rattle.srb_types.specs.Shown.{shown_at, shown}
 use Rattle.srb_types_laws.specs.NormalForms.{has_several, is_part, are_apart, is_arranged_at, is_arranged, is_cut_at, is_cut}
 
 pub themselves : {B : Type 0} (g : Ty → B) (ts : List Ty) → map (λ (y : Ty × B). y.0) (map (λ t. (t, g t)) ts) ≡ ts
@@ -60,3 +61,7 @@ cut_is t n = ap (λ x. is_cut x n) (sym (roll-out-Ty t)) ∙ cut_roll (out-Ty t)
 
 pub fits_is : (L : Lineage) (t : Ty) → fits L t ≡ fits_at (λ t. t) (fits L) L (out-Ty t)
 fits_is L t = ap (fits L) (sym (roll-out-Ty t)) ∙ fits_roll L (out-Ty t)
+
+pub shown_roll : (x : Ty-F Ty) → shown (roll-Ty x) ≡ shown_at (map-Ty Ty (List ℕ) shown x)
+unfolding shown
+shown_roll x = fold-roll-Ty (List ℕ) (λ t. shown_at t) x

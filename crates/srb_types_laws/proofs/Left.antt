@@ -1,5 +1,5 @@
 -- What is left of a type without the parts that are subtypes of another.
-use Rattle.std.proofs.Common.{◌≡◌, Bool, true, false, not, cond, List, [], ◌∷◌, inl, inr, refl, sym, ap, subst, ◌∙◌, if◌then◌else◌}
+use Rattle.std.proofs.Common.{◌≡◌, Bool, true, false, not, List, [], ◌∷◌, refl, sym, ap, subst, ◌∙◌, if◌then◌else◌}
 use Rattle.std.specs.Bool.{IsTrue}
 use Rattle.std.specs.List.{filter, list_all}
 use Rattle.srb_terms.specs.declared.ty.Ty.{Ty, out-Ty}
@@ -11,15 +11,15 @@ use Rattle.srb_shapes.specs.Comparing.{is_sub_of}
 use Rattle.srb_shapes.specs.Lineages.{Lineage, IsLineage}
 use Rattle.srb_shapes.specs.Parts.{of_parts, parts_at, parts_of}
 use Rattle.srb_shapes.specs.Shapes.{Shape, IsShape, belongs, fits, IsSubtype}
-use Rattle.srb_shapes_laws.proofs.Bools.{either, and-first, and-second, never, by-test}
+use Rattle.srb_shapes_laws.proofs.Bools.{either, and-first, never, by-test}
 use Rattle.srb_shapes_laws.proofs.Sound.{sound}
 use Rattle.srb_shapes_laws.proofs.Complete.{complete}
 use Rattle.srb_types.specs.Normal.{is_untyped, without_of}
 use Rattle.srb_types.specs.Shown.{shown}
-use Rattle.srb_types_laws.specs.NormalForms.{is_part, is_part_at, is_arranged, is_cut, IsNormal}
-use Rattle.srb_types_laws.specs.Laws.{Among}
+use Rattle.srb_types_laws.specs.NormalForms.{is_part, is_part_at, is_arranged, is_cut, IsNormal, Among}
+use Rattle.srb_types_laws.proofs.Elements.{among-all, among-kept, kept-among, not-false}
 use Rattle.srb_types_laws.proofs.Lists.{all-filtered, ordered-filtered, apart-filtered}
-use Rattle.srb_types_laws.proofs.Parts.{IsFine, parts-fine, of-parts-normal}
+use Rattle.srb_types_laws.proofs.Parts.{AreWell, is-well, parts-well, parts-cut, of-parts-normal}
 use Rattle.srb_types_laws.proofs.Joined.{has-parts, of-parts-has, any-filtered, any-left}
 
 -- ---- the parts of the type that has some parts
@@ -44,42 +44,12 @@ parts-again [] h = ap (parts_at ty.Never) (ap out-Ty (sym rolls-Never) ∙ out-r
 parts-again (p ∷ []) h = part-alone p (and-first _ _ h)
 parts-again (p ∷ q ∷ ps) h = ap (parts_at (ty.Any (p ∷ q ∷ ps))) (ap out-Ty (sym (rolls-Any (p ∷ q ∷ ps))) ∙ out-roll-Ty (Ty-F.Any (p ∷ q ∷ ps)))
 
--- ---- among lists
-
-pub among-kept : (f : Ty → Bool) (p : Ty) (xs : List Ty) → Among p (filter f xs) → Among p xs × IsTrue (f p)
-among-kept f p [] h = absurd h
-among-kept f p (x ∷ xs) h = go (f x) refl h (among-kept f p xs)
-  where
-    go : (b : Bool) → f x ≡ b → Among p (cond b (x ∷ filter f xs) (filter f xs)) → (Among p (filter f xs) → Among p xs × IsTrue (f p)) → Among p (x ∷ xs) × IsTrue (f p)
-    go true e (inl same) next = (inl same, subst (λ q. IsTrue (f q)) same e)
-    go true e (inr k) next = let n = next k in (inr n.0, n.1)
-    go false e k next = let n = next k in (inr n.0, n.1)
-
-pub kept-among : (f : Ty → Bool) (p : Ty) (xs : List Ty) → Among p xs → IsTrue (f p) → Among p (filter f xs)
-kept-among f p [] h k = h
-kept-among f p (x ∷ xs) (inl same) k = subst (λ b. Among p (cond b (x ∷ filter f xs) (filter f xs))) (sym (ap f same ∙ k)) (inl same)
-kept-among f p (x ∷ xs) (inr h) k = go (f x) (kept-among f p xs h k)
-  where
-    go : (b : Bool) → Among p (filter f xs) → Among p (cond b (x ∷ filter f xs) (filter f xs))
-    go true m = inr m
-    go false m = m
-
-pub among-all : (f : Ty → Bool) (p : Ty) (xs : List Ty) → Among p xs → IsTrue (list_all f xs) → IsTrue (f p)
-among-all f p [] h k = absurd h
-among-all f p (x ∷ xs) (inl same) k = subst (λ q. IsTrue (f q)) same (and-first _ _ k)
-among-all f p (x ∷ xs) (inr h) k = among-all f p xs h (and-second (f x) _ k)
-
-not-false : (b : Bool) → IsTrue (not b) → b ≡ false
-not-false true h = cc
-not-false false h = refl
-
 -- ---- what is left
 
-rest-fine : (L : Lineage) (f : Ty → Bool) (ps : List Ty) → IsFine L ps → IsFine L (filter f ps)
-rest-fine L f ps n = record {
+rest-well : (L : Lineage) (f : Ty → Bool) (ps : List Ty) → AreWell L ps → AreWell L (filter f ps)
+rest-well L f ps n = record {
   fitting = all-filtered (fits L) f ps n.fitting;
   arranged = all-filtered (is_arranged L) f ps n.arranged;
-  shallow = all-filtered (λ t. is_cut t 8) f ps n.shallow;
   parts = all-filtered is_part f ps n.parts;
   ordered = ordered-filtered shown f ps n.ordered;
   apart = apart-filtered _ f ps n.apart;
@@ -96,18 +66,19 @@ without-typed L t u e = ap (λ b. if b then t else of_parts (filter (λ p. not (
 pub without-normal : (L : Lineage) (t u : Ty) → IsNormal L t → IsNormal L (without_of L t u)
 without-normal L t u n = either
     (λ e. subst (IsNormal L) (sym (without-untyped L t u e)) n)
-    (λ e. subst (IsNormal L) (sym (without-typed L t u e)) (of-parts-normal L _ (rest-fine L _ (parts_of t) (parts-fine L t n e))))
+    (λ e. subst (IsNormal L) (sym (without-typed L t u e)) (of-parts-normal L _ (rest-well L _ (parts_of t) (parts-well L t (is-well L t n) e))
+    (all-filtered (λ p. is_cut p 8) _ (parts_of t) (parts-cut t 8 n.shallow))))
     (by-test (is_untyped t))
 
 module _ (L : Lineage) (laws : IsLineage L) (t u : Ty) (n : IsNormal L t) (typed : is_untyped t ≡ false) where
   parts-left : parts_of (without_of L t u) ≡ filter (λ p. not (is_sub_of L p u)) (parts_of t)
   parts-left = ap parts_of (without-typed L t u typed)
-      ∙ parts-again (filter (λ p. not (is_sub_of L p u)) (parts_of t)) (all-filtered is_part _ (parts_of t) (let f = parts-fine L t n typed in f.parts))
+      ∙ parts-again (filter (λ p. not (is_sub_of L p u)) (parts_of t)) (all-filtered is_part _ (parts_of t) (let f = parts-well L t (is-well L t n) typed in f.parts))
 
   pub left-to : (p : Ty) → Among p (parts_of (without_of L t u)) → Among p (parts_of t) × (IsSubtype L p u → ⊥)
   left-to p h = let
       k = among-kept (λ q. not (is_sub_of L q u)) p (parts_of t) (subst (Among p) parts-left h) in let
-      f = parts-fine L t n typed in let
+      f = parts-well L t (is-well L t n) typed in let
       c = complete false L laws p (among-all (fits L) p (parts_of t) k.0 f.fitting) u (not-false (is_sub_of L p u) k.1) in
       (k.0, λ sub. c.outside (sub c.shape c.valid c.inside))
 

@@ -1,6 +1,10 @@
 pub mod Orders
 pub mod Lists
+pub mod Elements
 pub mod Layers
 pub mod Parts
 pub mod Joined
 pub mod Left
+pub mod Inclusions
+pub mod Unique
+pub mod Algebra

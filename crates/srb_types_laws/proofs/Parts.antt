@@ -1,5 +1,5 @@
 -- The parts of types in normal form, and the type that has some parts.
-use Rattle.std.proofs.Common.{◌≡◌, Bool, true, false, not, ◌&&◌, ◌||◌, List, [], ◌∷◌, map, refl, sym, ap, subst, ◌∙◌, if◌then◌else◌}
+use Rattle.std.proofs.Common.{◌≡◌, ℕ, Bool, true, false, not, ◌&&◌, ◌||◌, List, [], ◌∷◌, map, refl, sym, ap, subst, ◌∙◌, if◌then◌else◌}
 use Rattle.std.specs.Bool.{IsTrue}
 use Rattle.std.specs.List.{filter, list_all, list_any}
 use Rattle.srb_terms.specs.declared.ty.Ty.{Ty, out-Ty}
@@ -19,97 +19,120 @@ use Rattle.srb_types_laws.specs.NormalForms.{in_order, is_apart, all_apart, has_
 use Rattle.srb_types_laws.proofs.Lists.{all-both, none-passes, all-filtered, filtered-pass, ordered-filtered, apart-filtered, all-placed, ordered-placed, apart-placed}
 use Rattle.srb_types_laws.proofs.Layers.{same-list, arranged_roll, arranged_is, cut_roll, cut_is, fits_is}
 
--- a part by itself
-pub record IsFine (L : Lineage) (ts : List Ty) : Type 0 where
+-- what is asked of a type beside its depth
+pub record IsWell (L : Lineage) (t : Ty) : Type 0 where
+  pub fitting : IsTrue (fits L t)
+  pub arranged : IsTrue (is_arranged L t)
+
+-- and of the parts of one
+pub record AreWell (L : Lineage) (ts : List Ty) : Type 0 where
   pub fitting : IsTrue (list_all (fits L) ts)
   pub arranged : IsTrue (list_all (is_arranged L) ts)
-  pub shallow : IsTrue (list_all (λ t. is_cut t 8) ts)
   pub parts : IsTrue (list_all is_part ts)
   pub ordered : IsTrue (in_order shown ts)
   pub apart : IsTrue (all_apart (lies_in L) ts)
 
-one-fine : (L : Lineage) (t : Ty) → IsNormal L t → IsTrue (is_part t) → IsFine L (t ∷ [])
-one-fine L t n part = record {
+pub is-well : (L : Lineage) (t : Ty) → IsNormal L t → IsWell L t
+is-well L t n = record { fitting = n.fitting; arranged = n.arranged }
+
+one-well : (L : Lineage) (t : Ty) → IsWell L t → IsTrue (is_part t) → AreWell L (t ∷ [])
+one-well L t n part = record {
   fitting = and-both (fits L t) _ n.fitting refl;
   arranged = and-both (is_arranged L t) _ n.arranged refl;
-  shallow = and-both (is_cut t 8) _ n.shallow refl;
   parts = and-both (is_part t) _ part refl;
   ordered = refl;
   apart = refl;
 }
 
-none-fine : (L : Lineage) → IsFine L []
-none-fine L = record { fitting = refl; arranged = refl; shallow = refl; parts = refl; ordered = refl; apart = refl }
+pub none-well : (L : Lineage) → AreWell L []
+none-well L = record { fitting = refl; arranged = refl; parts = refl; ordered = refl; apart = refl }
 
 -- the parts of a union
-union-fine : (L : Lineage) (ps : List Ty) → IsTrue (fits_at (λ t. t) (fits L) L (Ty-F.Any ps)) → IsTrue (is_arranged_at (λ t. t) (is_arranged L) L (Ty-F.Any ps))
-    → IsTrue (is_cut_at (λ t. t) is_cut (Ty-F.Any ps) 8) → IsFine L ps
-union-fine L ps fit arranged cut = let
+union-well : (L : Lineage) (ps : List Ty) → IsTrue (fits_at (λ t. t) (fits L) L (Ty-F.Any ps)) → IsTrue (is_arranged_at (λ t. t) (is_arranged L) L (Ty-F.Any ps))
+    → AreWell L ps
+union-well L ps fit arranged = let
     rest = and-second (list_all (is_arranged L) ps) _ arranged in let
     last = and-second (has_several ps) _ (and-second (list_all is_part (map (λ t. t) ps)) _ rest) in record {
       fitting = fit;
       arranged = and-first _ _ arranged;
-      shallow = cut;
       parts = subst (λ qs. IsTrue (list_all is_part qs)) (same-list ps) (and-first _ _ rest);
       ordered = subst (λ qs. IsTrue (in_order shown qs)) (same-list ps) (and-first _ _ last);
       apart = subst (λ qs. IsTrue (all_apart (lies_in L) qs)) (same-list ps) (and-second (in_order shown (map (λ t. t) ps)) _ last);
     }
 
-pub parts-fine : (L : Lineage) (t : Ty) → IsNormal L t → is_untyped t ≡ false → IsFine L (parts_of t)
+pub parts-well : (L : Lineage) (t : Ty) → IsWell L t → is_untyped t ≡ false → AreWell L (parts_of t)
 unfolding parts_of
-parts-fine L t n typed = go (out-Ty t) refl typed
+parts-well L t n typed = go (out-Ty t) refl typed
   where
-    go : (x : Ty-F Ty) → out-Ty t ≡ x → is_untyped_at x ≡ false → IsFine L (parts_at t x)
+    go : (x : Ty-F Ty) → out-Ty t ≡ x → is_untyped_at x ≡ false → AreWell L (parts_at t x)
     go Ty-F.Untyped e f = cc
-    go Ty-F.Never e f = none-fine L
-    go (Ty-F.Class d) e f = one-fine L t n (ap is_part_at e)
-    go (Ty-F.Meta d) e f = one-fine L t n (ap is_part_at e)
-    go (Ty-F.Arr d) e f = one-fine L t n (ap is_part_at e)
-    go (Ty-F.Hsh k v) e f = one-fine L t n (ap is_part_at e)
-    go (Ty-F.All ms) e f = one-fine L t n (ap is_part_at e)
-    go (Ty-F.Any ps) e f = union-fine L ps
+    go Ty-F.Never e f = none-well L
+    go (Ty-F.Class d) e f = one-well L t n (ap is_part_at e)
+    go (Ty-F.Meta d) e f = one-well L t n (ap is_part_at e)
+    go (Ty-F.Arr d) e f = one-well L t n (ap is_part_at e)
+    go (Ty-F.Hsh k v) e f = one-well L t n (ap is_part_at e)
+    go (Ty-F.All ms) e f = one-well L t n (ap is_part_at e)
+    go (Ty-F.Any ps) e f = union-well L ps
         (sym (fits_is L t ∙ ap (fits_at (λ u. u) (fits L) L) e) ∙ n.fitting)
         (sym (arranged_is L t ∙ ap (is_arranged_at (λ u. u) (is_arranged L) L) e) ∙ n.arranged)
-        (sym (cut_is t 8 ∙ ap (λ y. is_cut_at (λ u. u) is_cut y 8) e) ∙ n.shallow)
 
-pub of-parts-normal : (L : Lineage) (ps : List Ty) → IsFine L ps → IsNormal L (of_parts ps)
-of-parts-normal L [] f = record {
+-- the parts are cut as their type is
+pub parts-cut : (t : Ty) (n : ℕ) → IsTrue (is_cut t n) → IsTrue (list_all (λ p. is_cut p n) (parts_of t))
+unfolding parts_of
+parts-cut t n h = go (out-Ty t) refl
+  where
+    go : (x : Ty-F Ty) → out-Ty t ≡ x → IsTrue (list_all (λ p. is_cut p n) (parts_at t x))
+    go Ty-F.Never e = refl
+    go (Ty-F.Any ps) e = sym (cut_is t n ∙ ap (λ y. is_cut_at (λ u. u) is_cut y n) e) ∙ h
+    go Ty-F.Untyped e = and-both (is_cut t n) _ h refl
+    go (Ty-F.Class d) e = and-both (is_cut t n) _ h refl
+    go (Ty-F.Meta d) e = and-both (is_cut t n) _ h refl
+    go (Ty-F.Arr d) e = and-both (is_cut t n) _ h refl
+    go (Ty-F.Hsh k v) e = and-both (is_cut t n) _ h refl
+    go (Ty-F.All ms) e = and-both (is_cut t n) _ h refl
+
+pub of-parts-well : (L : Lineage) (ps : List Ty) → AreWell L ps → IsWell L (of_parts ps)
+of-parts-well L [] f = record {
   fitting = ap (fits L) (sym rolls-Never) ∙ fits_roll L Ty-F.Never;
   arranged = ap (is_arranged L) (sym rolls-Never) ∙ arranged_roll L Ty-F.Never;
-  shallow = ap (λ t. is_cut t 8) (sym rolls-Never) ∙ cut_roll Ty-F.Never 8;
 }
-of-parts-normal L (p ∷ []) f = record { fitting = and-first (fits L p) _ f.fitting; arranged = and-first (is_arranged L p) _ f.arranged; shallow = and-first (is_cut p 8) _ f.shallow }
-of-parts-normal L (p ∷ q ∷ ps) f = record {
+of-parts-well L (p ∷ []) f = record { fitting = and-first (fits L p) _ f.fitting; arranged = and-first (is_arranged L p) _ f.arranged }
+of-parts-well L (p ∷ q ∷ ps) f = record {
   fitting = ap (fits L) (sym (rolls-Any (p ∷ q ∷ ps))) ∙ fits_roll L (Ty-F.Any (p ∷ q ∷ ps)) ∙ f.fitting;
   arranged = ap (is_arranged L) (sym (rolls-Any (p ∷ q ∷ ps))) ∙ arranged_roll L (Ty-F.Any (p ∷ q ∷ ps))
-      ∙ and-both (list_all (is_arranged L) (p ∷ q ∷ ps)) _ f.arranged (subst (λ qs. IsTrue (list_all is_part qs && are_apart L qs)) (sym (same-list (p ∷ q ∷ ps)))
+      ∙ and-both (list_all (is_arranged L) (p ∷ q ∷ ps)) _ f.arranged
+      (subst (λ qs. IsTrue (list_all is_part qs && are_apart L qs)) (sym (same-list (p ∷ q ∷ ps)))
       (and-both (list_all is_part (p ∷ q ∷ ps)) _ f.parts (and-both (in_order shown (p ∷ q ∷ ps)) _ f.ordered f.apart)));
-  shallow = ap (λ t. is_cut t 8) (sym (rolls-Any (p ∷ q ∷ ps))) ∙ cut_roll (Ty-F.Any (p ∷ q ∷ ps)) 8 ∙ f.shallow;
 }
+
+pub of-parts-cut : (ps : List Ty) (n : ℕ) → IsTrue (list_all (λ p. is_cut p n) ps) → IsTrue (is_cut (of_parts ps) n)
+of-parts-cut [] n h = ap (λ t. is_cut t n) (sym rolls-Never) ∙ cut_roll Ty-F.Never n
+of-parts-cut (p ∷ []) n h = and-first (is_cut p n) _ h
+of-parts-cut (p ∷ q ∷ ps) n h = ap (λ t. is_cut t n) (sym (rolls-Any (p ∷ q ∷ ps))) ∙ cut_roll (Ty-F.Any (p ∷ q ∷ ps)) n ∙ h
+
+pub of-parts-normal : (L : Lineage) (ps : List Ty) → AreWell L ps → IsTrue (list_all (λ p. is_cut p 8) ps) → IsNormal L (of_parts ps)
+of-parts-normal L ps f cut = let w = of-parts-well L ps f in record { fitting = w.fitting; arranged = w.arranged; shallow = of-parts-cut ps 8 cut }
 
 -- ---- one part more
 
--- a part with what is asked of it by itself
-pub record IsOne (L : Lineage) (p : Ty) : Type 0 where
-  pub fitting : IsTrue (fits L p)
-  pub arranged : IsTrue (is_arranged L p)
-  pub shallow : IsTrue (is_cut p 8)
-  pub part : IsTrue (is_part p)
-
-pub with-part-fine : (L : Lineage) (ps : List Ty) (p : Ty) → IsFine L ps → IsOne L p → IsFine L (with_part L ps p)
+pub with-part-all : (f : Ty → Bool) (L : Lineage) (ps : List Ty) (p : Ty) → IsTrue (list_all f ps) → IsTrue (f p) → IsTrue (list_all f (with_part L ps p))
 unfolding with_part
-with-part-fine L ps p f o = go (list_any (λ q. lies_in L p q) ps) refl
+with-part-all f L ps p h k = go (list_any (λ q. lies_in L p q) ps)
   where
-    rest : List Ty
-    rest = filter (λ q. not (lies_in L q p)) ps
+    go : (b : Bool) → IsTrue (list_all f (if b then ps else placed shown p (filter (λ q. not (lies_in L q p)) ps)))
+    go true = h
+    go false = all-placed f shown p _ k (all-filtered f _ ps h)
 
-    go : (b : Bool) → list_any (λ q. lies_in L p q) ps ≡ b → IsFine L (if b then ps else placed shown p (filter (λ q. not (lies_in L q p)) ps))
+pub with-part-well : (L : Lineage) (ps : List Ty) (p : Ty) → AreWell L ps → IsWell L p → IsTrue (is_part p) → AreWell L (with_part L ps p)
+unfolding with_part
+with-part-well L ps p f o part = go (list_any (λ q. lies_in L p q) ps) refl
+  where
+    go : (b : Bool) → list_any (λ q. lies_in L p q) ps ≡ b → AreWell L (if b then ps else placed shown p (filter (λ q. not (lies_in L q p)) ps))
     go true e = f
     go false e = record {
       fitting = all-placed (fits L) shown p _ o.fitting (all-filtered (fits L) _ ps f.fitting);
       arranged = all-placed (is_arranged L) shown p _ o.arranged (all-filtered (is_arranged L) _ ps f.arranged);
-      shallow = all-placed (λ t. is_cut t 8) shown p _ o.shallow (all-filtered (λ t. is_cut t 8) _ ps f.shallow);
-      parts = all-placed is_part shown p _ o.part (all-filtered is_part _ ps f.parts);
+      parts = all-placed is_part shown p _ part (all-filtered is_part _ ps f.parts);
       ordered = ordered-placed shown p _ (ordered-filtered shown _ ps f.ordered);
       apart = apart-placed (lies_in L) shown p (filter (λ q. not (lies_in L q p)) ps)
           (all-both (λ q. not (lies_in L p q)) (λ q. not (lies_in L q p)) (is_apart (lies_in L) p) (λ q h k. and-both (not (lies_in L p q)) _ h k)
@@ -119,14 +142,18 @@ with-part-fine L ps p f o = go (list_any (λ q. lies_in L p q) ps) refl
           (apart-filtered (lies_in L) _ ps f.apart);
     }
 
-pub with-parts-fine : (L : Lineage) (ps more : List Ty) → IsFine L ps → IsFine L more → IsFine L (with_parts L ps more)
-with-parts-fine L ps [] f g = f
-with-parts-fine L ps (p ∷ more) f g = with-parts-fine L (with_part L ps p) more
-    (with-part-fine L ps p f (record { fitting = and-first _ _ g.fitting; arranged = and-first _ _ g.arranged; shallow = and-first (is_cut p 8) _ g.shallow; part = and-first _ _ g.parts }))
+pub with-parts-all : (f : Ty → Bool) (L : Lineage) (ps more : List Ty) → IsTrue (list_all f ps) → IsTrue (list_all f more) → IsTrue (list_all f (with_parts L ps more))
+with-parts-all f L ps [] h k = h
+with-parts-all f L ps (p ∷ more) h k =
+    with-parts-all f L (with_part L ps p) more (with-part-all f L ps p h (and-first _ _ k)) (and-second (f p) _ k)
+
+pub with-parts-well : (L : Lineage) (ps more : List Ty) → AreWell L ps → AreWell L more → AreWell L (with_parts L ps more)
+with-parts-well L ps [] f g = f
+with-parts-well L ps (p ∷ more) f g = with-parts-well L (with_part L ps p) more
+    (with-part-well L ps p f (record { fitting = and-first _ _ g.fitting; arranged = and-first _ _ g.arranged }) (and-first _ _ g.parts))
     (record {
       fitting = and-second (fits L p) _ g.fitting;
       arranged = and-second (is_arranged L p) _ g.arranged;
-      shallow = and-second (is_cut p 8) _ g.shallow;
       parts = and-second (is_part p) _ g.parts;
       ordered = and-second (list_all _ more) _ g.ordered;
       apart = and-second (list_all (is_apart (lies_in L) p) more) _ g.apart;
@@ -134,14 +161,14 @@ with-parts-fine L ps (p ∷ more) f g = with-parts-fine L (with_part L ps p) mor
 
 -- ---- unions
 
-untyped-normal : (L : Lineage) → IsNormal L ty.Untyped
+pub untyped-normal : (L : Lineage) → IsNormal L ty.Untyped
 untyped-normal L = record {
   fitting = ap (fits L) (sym rolls-Untyped) ∙ fits_roll L Ty-F.Untyped;
   arranged = ap (is_arranged L) (sym rolls-Untyped) ∙ arranged_roll L Ty-F.Untyped;
   shallow = ap (λ t. is_cut t 8) (sym rolls-Untyped) ∙ cut_roll Ty-F.Untyped 8;
 }
 
-neither : (a b : Bool) → (a || b) ≡ false → (a ≡ false) × (b ≡ false)
+pub neither : (a b : Bool) → (a || b) ≡ false → (a ≡ false) × (b ≡ false)
 neither true b e = cc
 neither false b e = (refl, e)
 
@@ -153,4 +180,5 @@ any-normal L t u n m = go (one_untyped t u) refl
     go true e = untyped-normal L
     go false e = let typed = neither (is_untyped t) (is_untyped u) e in
         of-parts-normal L (with_parts L (parts_of t) (parts_of u))
-        (with-parts-fine L (parts_of t) (parts_of u) (parts-fine L t n typed.0) (parts-fine L u m typed.1))
+        (with-parts-well L (parts_of t) (parts_of u) (parts-well L t (is-well L t n) typed.0) (parts-well L u (is-well L u m) typed.1))
+        (with-parts-all (λ p. is_cut p 8) L (parts_of t) (parts_of u) (parts-cut t 8 n.shallow) (parts-cut u 8 m.shallow))

@@ -1,17 +1,12 @@
 -- What the operations on types do to their shapes, and that their answers are in normal form. In each law every shape belongs to
 -- `T.untyped`, and the unknown one to it alone, where nothing else is said.
-use Rattle.std.specs.Prelude.{◌≡◌, ◌⊎◌, ◌↔◌, true, false, ◌||◌, List, [], ◌∷◌, IsTrue}
+use Rattle.std.specs.Prelude.{◌≡◌, ◌↔◌, true, false, ◌||◌, IsTrue}
 use Rattle.srb_terms.specs.declared.ty.Ty.{Ty}
 use Rattle.srb_shapes.specs.Lineages.{Lineage, IsLineage}
 use Rattle.srb_shapes.specs.Parts.{parts_of}
 use Rattle.srb_shapes.specs.Shapes.{Shape, IsShape, belongs, IsSubtype}
 use Rattle.srb_types.specs.Normal.{any_of, is_untyped, without_of}
-use Rattle.srb_types_laws.specs.NormalForms.{IsNormal}
-
--- one of these types
-abbrev pub Among : Ty → List Ty → Type 0
-Among t [] = ⊥
-Among t (u ∷ us) = (u ≡ t) ⊎ Among t us
+use Rattle.srb_types_laws.specs.NormalForms.{Among, HasNoCircles, IsNormal, TextsTell}
 
 -- ---- unions
 
@@ -45,3 +40,17 @@ OtherShapesAreLeft =
     (L : Lineage) (t u : Ty) (s : Shape) → IsLineage L → IsShape false L s
     → (IsTrue (belongs false L (without_of L t u) s) → IsTrue (belongs false L t s))
     × (IsTrue (belongs false L t s) → belongs true L u s ≡ false → IsTrue (belongs false L (without_of L t u) s))
+
+-- ---- one type for each set of shapes
+
+-- two types in normal form to which the same shapes belong are one
+abbrev pub NormalFormsAreUnique : Type 0
+NormalFormsAreUnique =
+    (L : Lineage) (t u : Ty) → IsLineage L → HasNoCircles L → TextsTell L → IsNormal L t → IsNormal L u
+    → ((s : Shape) → IsShape true L s → belongs true L t s ≡ belongs true L u s) → t ≡ u
+
+-- `T.any` of types in normal form doesn't depend on their order, nor on brackets, and adds nothing to a type where both are that type
+abbrev pub UnionsDoNotDependOnOrder : Type 0
+UnionsDoNotDependOnOrder =
+    (L : Lineage) (t u v : Ty) → IsLineage L → HasNoCircles L → TextsTell L → IsNormal L t → IsNormal L u → IsNormal L v
+    → (any_of L t u ≡ any_of L u t) × (any_of L (any_of L t u) v ≡ any_of L t (any_of L u v)) × (any_of L t t ≡ t)

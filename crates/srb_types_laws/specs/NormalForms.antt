@@ -1,16 +1,21 @@
 -- Types in normal form: what is asked of a type beside that its names are known.
-use Rattle.std.specs.Prelude.{ℕ, ◌-◌, Bool, true, false, not, ◌&&◌, List, [], ◌∷◌, map, nat_eq, IsTrue, if◌then◌else◌}
+use Rattle.std.specs.Prelude.{◌≡◌, ◌⊎◌, ℕ, ◌-◌, Bool, true, false, not, ◌&&◌, List, [], ◌∷◌, map, nat_eq, IsTrue, if◌then◌else◌}
 use Rattle.std.specs.List.{list_all}
 use Rattle.srb_terms.specs.declared.ty.Ty.{Ty, out-Ty, para-Ty}
 use Rattle.srb_terms.specs.declared.ty.Ty.TheOpen.{Ty-F}
 use Rattle.srb_shapes.specs.Comparing.{lies_in}
-use Rattle.srb_shapes.specs.Lineages.{Lineage}
+use Rattle.srb_shapes.specs.Lineages.{Lineage, Has}
 use Rattle.srb_shapes.specs.Shapes.{fits}
 use Rattle.srb_types.specs.Normal.{is_untyped}
 use Rattle.srb_types.specs.Order.{is_before}
 use Rattle.srb_types.specs.Shown.{shown}
 
 -- ---- lists
+
+-- one of the elements
+abbrev pub Among : {A : Type 0} → A → List A → Type 0
+Among x [] = ⊥
+Among x (y ∷ ys) = (y ≡ x) ⊎ Among x ys
 
 -- whether the elements stand in the order of their texts
 abbrev pub in_order : {A : Type 0} → (A → List ℕ) → List A → Bool
@@ -81,3 +86,15 @@ pub record IsNormal (L : Lineage) (t : Ty) : Type 0 where
   pub fitting : IsTrue (fits L t)
   pub arranged : IsTrue (is_arranged L t)
   pub shallow : IsTrue (is_cut t 8)
+
+-- ---- what tells types apart
+
+-- no two classes or modules inherit from each other
+abbrev pub HasNoCircles : Lineage → Type 0
+HasNoCircles L = (c d : List ℕ) → Has (L.lin c) d → Has (L.lin d) c → c ≡ d
+
+-- parts that are shown alike are one
+abbrev pub TextsTell : Lineage → Type 0
+TextsTell L =
+    (p q : Ty) → IsTrue (fits L p) → IsTrue (fits L q) → IsTrue (is_arranged L p) → IsTrue (is_arranged L q)
+    → IsTrue (is_part p) → IsTrue (is_part q) → shown p ≡ shown q → p ≡ q

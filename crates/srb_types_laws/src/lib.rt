@@ -1,7 +1,7 @@
 //! What the operations on types mean: which shapes their answers have, and that these are in normal form.
 #![tactic(auto)]
 
-ghost use Rattle.srb_types_laws.specs.Laws.{OtherShapesAreLeft, SubtypesAreLeftOut, UnionsAreNormal, UnionsHaveTheShapesOfBoth, WhatIsLeftIsNormal};
+ghost use Rattle.srb_types_laws.specs.Laws.{NormalFormsAreUnique, OtherShapesAreLeft, SubtypesAreLeftOut, UnionsAreNormal, UnionsDoNotDependOnOrder, UnionsHaveTheShapesOfBoth, WhatIsLeftIsNormal};
 
 /// `T.any` of two types in normal form is in normal form, and has exactly the shapes of both.
 pub fn unions_join_shapes()
@@ -15,4 +15,11 @@ pub fn subtypes_are_left_out()
     ensures normal { WhatIsLeftIsNormal }
     ensures parts { SubtypesAreLeftOut }
     ensures shapes { OtherShapesAreLeft }
+{}
+
+/// Where no two classes or modules inherit from each other and no two parts are shown alike, two types in normal form with the same shapes
+/// are one, and `T.any` doesn't depend on the order of types.
+pub fn normal_forms_are_unique()
+    ensures unique { NormalFormsAreUnique }
+    ensures unions { UnionsDoNotDependOnOrder }
 {}
