@@ -1,8 +1,8 @@
 -- One of the elements of a list, and lists with the same elements.
-use Rattle.std.proofs.Common.{◌≡◌, ℕ, Bool, true, false, not, cond, ◌&&◌, ◌||◌, List, [], ◌∷◌, map, inl, inr, refl, sym, ap, subst, ◌∙◌}
+use Rattle.std.proofs.Common.{◌≡◌, ◌⊎◌, ℕ, Bool, true, false, not, cond, ◌&&◌, ◌||◌, List, [], ◌∷◌, map, inl, inr, refl, sym, ap, subst, ◌∙◌, if◌then◌else◌}
 use Rattle.std.specs.Bool.{IsTrue}
 use Rattle.std.specs.List.{filter, list_all, list_any}
-use Rattle.srb_types.specs.Order.{is_before}
+use Rattle.srb_types.specs.Order.{is_before, before_all, placed}
 use Rattle.srb_shapes_laws.proofs.Bools.{either, and-first, and-second, or-cases}
 use Rattle.srb_types_laws.specs.NormalForms.{Among, in_order, is_apart, all_apart}
 use Rattle.srb_types_laws.proofs.Orders.{Upto, upto-itself, upto-both}
@@ -132,3 +132,29 @@ apart-turned {A} test (x ∷ xs) h = both-hold (list_all (is_apart (λ v w. test
     turned (y ∷ ys) h = both-hold (is_apart (λ v w. test w v) x y) _
         (both-hold (not (test y x)) _ (and-second (not (test x y)) _ (and-first (is_apart test x y) _ h)) (and-first (not (test x y)) _ (and-first (is_apart test x y) _ h)))
         (turned ys (and-second (is_apart test x y) _ h))
+
+pub among-named : {A B : Type 0} (g : A → B) (y : B) (xs : List A) → Among y (map g xs) → (x : A) × Among x xs × (g x ≡ y)
+among-named g y [] h = absurd h
+among-named g y (x ∷ xs) (inl e) = (x, inl refl, e)
+among-named g y (x ∷ xs) (inr h) = let k = among-named g y xs h in (k.0, inr k.1, k.2)
+
+-- ---- placed among others
+
+pub among-placed : {A : Type 0} (text : A → List ℕ) (p x : A) (xs : List A) → Among x (placed text p xs) → (p ≡ x) ⊎ Among x xs
+among-placed text p x [] h = h
+among-placed {A} text p x (y ∷ ys) h = go (before_all text (text p) (y ∷ ys)) h (among-placed text p x ys)
+  where
+    go : (b : Bool) → Among x (if b then p ∷ y ∷ ys else y ∷ placed text p ys) → (Among x (placed text p ys) → (p ≡ x) ⊎ Among x ys) → (p ≡ x) ⊎ Among x (y ∷ ys)
+    go true k next = k
+    go false (inl e) next = inr (inl e)
+    go false (inr k) next = either (λ e. inl e) (λ a. inr (inr a)) (next k)
+
+pub placed-among : {A : Type 0} (text : A → List ℕ) (p x : A) (xs : List A) → (p ≡ x) ⊎ Among x xs → Among x (placed text p xs)
+placed-among text p x [] h = h
+placed-among text p x (y ∷ ys) h = go (before_all text (text p) (y ∷ ys)) h (placed-among text p x ys)
+  where
+    go : (b : Bool) → (p ≡ x) ⊎ Among x (y ∷ ys) → ((p ≡ x) ⊎ Among x ys → Among x (placed text p ys)) → Among x (if b then p ∷ y ∷ ys else y ∷ placed text p ys)
+    go true k next = k
+    go false (inl e) next = inr (next (inl e))
+    go false (inr (inl e)) next = inl e
+    go false (inr (inr k)) next = inr (next (inr k))

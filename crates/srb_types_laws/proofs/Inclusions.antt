@@ -19,9 +19,10 @@ use Rattle.srb_shapes_laws.proofs.Equations.{belongs_roll, belongs_is, fits_roll
 use Rattle.srb_shapes_laws.proofs.Sound.{sound}
 use Rattle.srb_shapes_laws.proofs.Complete.{complete}
 use Rattle.srb_types.specs.Normal.{is_untyped_at, is_untyped}
+use Rattle.srb_types.specs.Shown.{shown}
 use Rattle.srb_types_laws.specs.NormalForms.{Among, is_part, is_part_at, is_arranged_at, is_arranged}
 use Rattle.srb_types_laws.proofs.Elements.{among-all, some-among, among-mapped}
-use Rattle.srb_types_laws.proofs.Layers.{arranged_is, fits_is}
+use Rattle.srb_types_laws.proofs.Layers.{arranged_is, fits_is, shown_roll}
 use Rattle.srb_types_laws.proofs.Joined.{has-parts}
 use Rattle.srb_types_laws.proofs.Parts.{IsWell, parts-well}
 
@@ -107,6 +108,17 @@ member-is L ms together m a = go (out-Ty m) refl (let
     go (Ty-F.Hsh k v) e h = cc
     go (Ty-F.Any ps) e h = cc
     go (Ty-F.All ns) e h = cc
+
+-- the text of a class or module is its name
+pub class-shown : (c : List ℕ) → shown (ty.Class c) ≡ c
+class-shown c = ap shown (sym (rolls-Class c)) ∙ shown_roll (Ty-F.Class c)
+
+pub member-text : (L : Lineage) (ms ns : List Ty) → IsTrue (all_together L (map name_of ms)) → IsTrue (all_together L (map name_of ns))
+    → (m n : Ty) → Among m ms → Among n ns → shown m ≡ shown n → m ≡ n
+member-text L ms ns p q m n a b e = let
+    c = member-is L ms p m a in let
+    d = member-is L ns q n b in
+    c.1 ∙ ap (λ x. ty.Class x) (sym (class-shown c.0) ∙ sym (ap shown c.1) ∙ e ∙ ap shown d.1 ∙ class-shown d.0) ∙ sym d.1
 
 pub class-fits : (L : Lineage) (c : List ℕ) → fits L (ty.Class c) ≡ is_body (L.kind c)
 class-fits L c = ap (fits L) (sym (rolls-Class c)) ∙ fits_roll L (Ty-F.Class c)

@@ -1,5 +1,6 @@
 -- Whether a type is arranged and cut goes by its layer.
 use Rattle.std.proofs.Common.{◌≡◌, ℕ, Bool, ◌&&◌, List, [], ◌∷◌, map, refl, ap, sym, ◌∙◌}
+use Rattle.std.specs.Bool.{IsTrue}
 use Rattle.std.specs.List.{list_all}
 use Rattle.srb_terms.specs.declared.ty.Ty.{Ty, out-Ty}
 use Rattle.srb_terms.specs.declared.ty.Ty.TheOpen.{Ty-F}
@@ -65,3 +66,8 @@ fits_is L t = ap (fits L) (sym (roll-out-Ty t)) ∙ fits_roll L (out-Ty t)
 pub shown_roll : (x : Ty-F Ty) → shown (roll-Ty x) ≡ shown_at (map-Ty Ty (List ℕ) shown x)
 unfolding shown
 shown_roll x = fold-roll-Ty (List ℕ) (λ t. shown_at t) x
+
+-- a layer with what is asked of its type
+pub record IsLayer (L : Lineage) (x : Ty-F Ty) : Type 0 where
+  pub fitting : IsTrue (fits_at (λ t. t) (fits L) L x)
+  pub arranged : IsTrue (is_arranged_at (λ t. t) (is_arranged L) L x)

@@ -8,3 +8,7 @@ pub mod Left
 pub mod Inclusions
 pub mod Unique
 pub mod Algebra
+pub mod Rendering
+pub mod Unions
+pub mod Texts
+pub mod Telling

@@ -48,7 +48,7 @@ pub none-well : (L : Lineage) → AreWell L []
 none-well L = record { fitting = refl; arranged = refl; parts = refl; ordered = refl; apart = refl }
 
 -- the parts of a union
-union-well : (L : Lineage) (ps : List Ty) → IsTrue (fits_at (λ t. t) (fits L) L (Ty-F.Any ps)) → IsTrue (is_arranged_at (λ t. t) (is_arranged L) L (Ty-F.Any ps))
+pub union-well : (L : Lineage) (ps : List Ty) → IsTrue (fits_at (λ t. t) (fits L) L (Ty-F.Any ps)) → IsTrue (is_arranged_at (λ t. t) (is_arranged L) L (Ty-F.Any ps))
     → AreWell L ps
 union-well L ps fit arranged = let
     rest = and-second (list_all (is_arranged L) ps) _ arranged in let

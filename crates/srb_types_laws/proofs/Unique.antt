@@ -11,7 +11,7 @@ use Rattle.srb_terms.specs.declared.ty.Ty.TheFolds.{map-Ty, ind-Ty}
 use Rattle.srb_shapes.specs.Comparing.{holds_at, holds, is_below, is_meta_below, is_all_below, test_of, within, lies_in}
 use Rattle.srb_shapes.specs.Lineages.{Lineage, IsLineage, is_class}
 use Rattle.srb_shapes.specs.Parts.{of_parts, parts_at, parts_of}
-use Rattle.srb_shapes.specs.Shapes.{unknown, name_of, all_together, fits_at, fits}
+use Rattle.srb_shapes.specs.Shapes.{unknown, name_of, all_together, fits}
 use Rattle.srb_shapes.proofs.Steps.{holds_roll}
 use Rattle.srb_shapes.proofs.Variants.{holds-class}
 use Rattle.srb_shapes_laws.proofs.Bools.{either, and-first, and-second, by-test, or-cases, same-name}
@@ -21,14 +21,10 @@ use Rattle.srb_types.specs.Normal.{is_untyped_at, is_untyped}
 use Rattle.srb_types.specs.Shown.{shown}
 use Rattle.srb_types_laws.specs.NormalForms.{Among, in_order, all_apart, has_several, is_part, is_part_at, are_apart, is_arranged_at, is_arranged, HasNoCircles, TextsTell}
 use Rattle.srb_types_laws.proofs.Elements.{among-all, some-among, one-element, all-there, same-lists, apart-turned, not-both}
-use Rattle.srb_types_laws.proofs.Layers.{same-list, arranged_roll, arranged_is, fits_is, shown_roll}
+use Rattle.srb_types_laws.proofs.Layers.{IsLayer, same-list, arranged_roll, arranged_is, fits_is}
 use Rattle.srb_types_laws.proofs.Joined.{untyped-has}
 use Rattle.srb_types_laws.proofs.Parts.{IsWell, parts-well}
-use Rattle.srb_types_laws.proofs.Inclusions.{holds_is, part-test, lies-parts, part-lies, member-is, member-fits, class-within, class-lies, lies-itself, lies-chain, typed-knows, untyped-is, parts-whole}
-
--- the text of a class or module is its name
-pub class-shown : (c : List ℕ) → shown (ty.Class c) ≡ c
-class-shown c = ap shown (sym (rolls-Class c)) ∙ shown_roll (Ty-F.Class c)
+use Rattle.srb_types_laws.proofs.Inclusions.{member-text, holds_is, part-test, lies-parts, part-lies, member-is, member-fits, class-within, class-lies, lies-itself, lies-chain, typed-knows, untyped-is, parts-whole}
 
 module _ (L : Lineage) (laws : IsLineage L) (circles : HasNoCircles L) where
   class-same : (c d : List ℕ) → IsTrue (lies_in L (ty.Class c) (ty.Class d)) → IsTrue (lies_in L (ty.Class d) (ty.Class c)) → c ≡ d
@@ -59,12 +55,6 @@ module _ (L : Lineage) (laws : IsLineage L) (circles : HasNoCircles L) where
         (subst (λ (p : Ty × Ty). IsTrue (lies_in L p.0 p.1)) (λ i. (c.1 i, d.1 i)) h)
         (subst (λ (p : Ty × Ty). IsTrue (lies_in L p.1 p.0)) (λ i. (c.1 i, d.1 i)) k)) ∙ sym d.1
 
-    member-text : (ns : List Ty) → IsTrue (all_together L (map name_of ns)) → (m n : Ty) → Among m ms → Among n ns → shown m ≡ shown n → m ≡ n
-    member-text ns more m n a b e = let
-        c = member-is L ms together m a in let
-        d = member-is L ns more n b in
-        c.1 ∙ ap (λ x. ty.Class x) (sym (class-shown c.0) ∙ sym (ap shown c.1) ∙ e ∙ ap shown d.1 ∙ class-shown d.0) ∙ sym d.1
-
     -- an intersection isn't one of its members
     no-class : IsTrue (has_several ms) → IsTrue (are_apart L ms) → (c : List ℕ)
         → IsTrue (is_all_below (within true L) ms (Ty-F.Class c)) → IsTrue (list_all (holds (is_below (L.lin c))) ms) → ⊥
@@ -94,7 +84,7 @@ module _ (L : Lineage) (laws : IsLineage L) (circles : HasNoCircles L) where
   same-members ms ns p q a b h k = same-lists shown (lies_in L) ms ns (and-first _ _ a) (and-first _ _ b)
       (and-second (in_order shown ms) _ a) (and-second (in_order shown ns) _ b)
       (λ m i. lies-itself L laws m (member-fits L ms p m i)) (λ n i. lies-itself L laws n (member-fits L ns q n i))
-      (member-text ms p ns q)
+      (member-text L ms ns p q)
       (all-there (λ x y. lies_in L y x) ms ns (apart-turned (lies_in L) ms (and-second (in_order shown ms) _ a))
       (λ x y z i j l v w. lies-chain L laws z y x (member-fits L ms p z l) w v)
       (λ x y i j v w. member-same ms p ns q x y i j w v)
@@ -121,18 +111,13 @@ module _ (L : Lineage) (laws : IsLineage L) (circles : HasNoCircles L) where
   abbrev plain : Ty-F Same → Ty-F Ty
   plain y = map-Ty Same Ty it y
 
-  -- a layer with what is asked of its type
-  record IsLayer (x : Ty-F Ty) : Type 0 where
-    fitting : IsTrue (fits_at (λ t. t) (fits L) L x)
-    arranged : IsTrue (is_arranged_at (λ t. t) (is_arranged L) L x)
-
   abbrev Test : Ty-F Ty → Ty-F Ty → Bool
   Test x = test_of (within true L) L x
 
   apart-members : (ms : List Ty) → IsTrue (is_arranged_at (λ t. t) (is_arranged L) L (Ty-F.All ms)) → IsTrue (are_apart L ms)
   apart-members ms h = subst (λ ns. IsTrue (are_apart L ns)) (same-list ms) (and-second (has_several ms) _ h)
 
-  part-same : (y : Ty-F Same) (z : Ty-F Ty) → IsTrue (is_part_at (plain y)) → IsTrue (is_part_at z) → IsLayer (plain y) → IsLayer z
+  part-same : (y : Ty-F Same) (z : Ty-F Ty) → IsTrue (is_part_at (plain y)) → IsTrue (is_part_at z) → IsLayer L (plain y) → IsLayer L z
       → IsTrue (holds_at (λ t. t) (holds (Test (plain y))) (Test (plain y)) z) → IsTrue (holds_at (λ t. t) (holds (Test z)) (Test z) (plain y))
       → roll-Ty (plain y) ≡ roll-Ty z
   part-same (Ty-F.Class c) (Ty-F.Class d) p q w v h k = ap (λ n. roll-Ty (Ty-F.Class n)) (circles c d h k)

@@ -1,12 +1,14 @@
 -- What the operations on types do to their shapes, and that their answers are in normal form. In each law every shape belongs to
 -- `T.untyped`, and the unknown one to it alone, where nothing else is said.
-use Rattle.std.specs.Prelude.{◌≡◌, ◌↔◌, true, false, ◌||◌, IsTrue}
+use Rattle.std.specs.Prelude.{◌≡◌, ◌↔◌, true, false, ◌||◌, [], ◌∷◌, IsTrue}
 use Rattle.srb_terms.specs.declared.ty.Ty.{Ty}
+use Rattle.srb_terms.specs.declared.ty.Ty.TheVariants as ty
 use Rattle.srb_shapes.specs.Lineages.{Lineage, IsLineage}
 use Rattle.srb_shapes.specs.Parts.{parts_of}
 use Rattle.srb_shapes.specs.Shapes.{Shape, IsShape, belongs, IsSubtype}
 use Rattle.srb_types.specs.Normal.{any_of, is_untyped, without_of}
-use Rattle.srb_types_laws.specs.NormalForms.{Among, HasNoCircles, IsNormal, TextsTell}
+use Rattle.srb_types.specs.Shown.{BOOLEAN, FALSE, TRUE, shown}
+use Rattle.srb_types_laws.specs.NormalForms.{Among, HasNoCircles, HasPlainNames, IsNormal, TextsTell}
 
 -- ---- unions
 
@@ -54,3 +56,18 @@ abbrev pub UnionsDoNotDependOnOrder : Type 0
 UnionsDoNotDependOnOrder =
     (L : Lineage) (t u v : Ty) → IsLineage L → HasNoCircles L → TextsTell L → IsNormal L t → IsNormal L u → IsNormal L v
     → (any_of L t u ≡ any_of L u t) × (any_of L (any_of L t u) v ≡ any_of L t (any_of L u v)) × (any_of L t t ≡ t)
+
+-- ---- shown texts
+
+-- two types in normal form that are shown alike are one, where the names of classes and modules are plain
+abbrev pub ShownTextsTellTypes : Type 0
+ShownTextsTellTypes =
+    (L : Lineage) (t u : Ty) → IsLineage L → HasPlainNames L → IsNormal L t → IsNormal L u → shown t ≡ shown u → t ≡ u
+
+-- plain names are enough for parts to be told apart by their texts
+abbrev pub PlainNamesTellParts : Type 0
+PlainNamesTellParts = (L : Lineage) → IsLineage L → HasPlainNames L → TextsTell L
+
+-- a class that is named `T::Boolean` would be shown as `T.any` of `FalseClass` and `TrueClass` is
+abbrev pub BooleanIsShownAlike : Type 0
+BooleanIsShownAlike = shown (ty.Class BOOLEAN) ≡ shown (ty.Any (ty.Class FALSE ∷ ty.Class TRUE ∷ []))

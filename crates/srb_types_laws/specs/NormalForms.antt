@@ -1,14 +1,14 @@
 -- Types in normal form: what is asked of a type beside that its names are known.
-use Rattle.std.specs.Prelude.{◌≡◌, ◌⊎◌, ℕ, ◌-◌, Bool, true, false, not, ◌&&◌, List, [], ◌∷◌, map, nat_eq, IsTrue, if◌then◌else◌}
-use Rattle.std.specs.List.{list_all}
+use Rattle.std.specs.Prelude.{◌≡◌, ◌⊎◌, ℕ, codes, bytes_eq, ◌-◌, Bool, true, false, not, ◌&&◌, List, [], ◌∷◌, map, nat_eq, IsTrue, if◌then◌else◌}
+use Rattle.std.specs.List.{list_all, list_any}
 use Rattle.srb_terms.specs.declared.ty.Ty.{Ty, out-Ty, para-Ty}
 use Rattle.srb_terms.specs.declared.ty.Ty.TheOpen.{Ty-F}
 use Rattle.srb_shapes.specs.Comparing.{lies_in}
-use Rattle.srb_shapes.specs.Lineages.{Lineage, Has}
+use Rattle.srb_shapes.specs.Lineages.{Lineage, Has, is_body}
 use Rattle.srb_shapes.specs.Shapes.{fits}
 use Rattle.srb_types.specs.Normal.{is_untyped}
 use Rattle.srb_types.specs.Order.{is_before}
-use Rattle.srb_types.specs.Shown.{shown}
+use Rattle.srb_types.specs.Shown.{BOOLEAN, shown}
 
 -- ---- lists
 
@@ -98,3 +98,11 @@ abbrev pub TextsTell : Lineage → Type 0
 TextsTell L =
     (p q : Ty) → IsTrue (fits L p) → IsTrue (fits L q) → IsTrue (is_arranged L p) → IsTrue (is_arranged L q)
     → IsTrue (is_part p) → IsTrue (is_part q) → shown p ≡ shown q → p ≡ q
+
+-- whether a name has no blank, bracket, comma or dot
+abbrev pub is_plain : List ℕ → Bool
+is_plain name = list_all (λ c. not (list_any (nat_eq c) (codes " (),[]."))) name
+
+-- The names of classes and modules are plain, and none of them is `T::Boolean`, which two classes together are shown as.
+abbrev pub HasPlainNames : Lineage → Type 0
+HasPlainNames L = (c : List ℕ) → IsTrue (is_body (L.kind c)) → IsTrue (is_plain c && not (bytes_eq c BOOLEAN))

@@ -1,7 +1,7 @@
 //! What the operations on types mean: which shapes their answers have, and that these are in normal form.
 #![tactic(auto)]
 
-ghost use Rattle.srb_types_laws.specs.Laws.{NormalFormsAreUnique, OtherShapesAreLeft, SubtypesAreLeftOut, UnionsAreNormal, UnionsDoNotDependOnOrder, UnionsHaveTheShapesOfBoth, WhatIsLeftIsNormal};
+ghost use Rattle.srb_types_laws.specs.Laws.{BooleanIsShownAlike, NormalFormsAreUnique, OtherShapesAreLeft, PlainNamesTellParts, ShownTextsTellTypes, SubtypesAreLeftOut, UnionsAreNormal, UnionsDoNotDependOnOrder, UnionsHaveTheShapesOfBoth, WhatIsLeftIsNormal};
 
 /// `T.any` of two types in normal form is in normal form, and has exactly the shapes of both.
 pub fn unions_join_shapes()
@@ -22,4 +22,12 @@ pub fn subtypes_are_left_out()
 pub fn normal_forms_are_unique()
     ensures unique { NormalFormsAreUnique }
     ensures unions { UnionsDoNotDependOnOrder }
+{}
+
+/// Where the names of classes and modules are plain, types in normal form are told apart by their texts. A class `T::Boolean` is the
+/// one name of Ruby that isn't plain: it would be shown as two classes together are.
+pub fn shown_texts_tell_types()
+    ensures types { ShownTextsTellTypes }
+    ensures parts { PlainNamesTellParts }
+    ensures boolean { BooleanIsShownAlike }
 {}
