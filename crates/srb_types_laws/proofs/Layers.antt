@@ -11,7 +11,7 @@ use Rattle.srb_shapes.specs.Shapes.{fits_at, fits}
 use Rattle.srb_shapes.proofs.Steps.{all-mapped}
 use Rattle.srb_shapes_laws.proofs.Equations.{fits_roll}
 use Rattle.srb_types.specs.Shown.{shown_at, shown}
-use Rattle.srb_types_laws.specs.NormalForms.{has_several, is_part, are_apart, is_arranged_at, is_arranged, is_cut_at, is_cut}
+use Rattle.srb_types_laws.specs.NormalForms.{has_several, is_part, are_apart, is_arranged_at, is_arranged, is_cut_at, is_cut, is_typed_at, is_typed}
 
 pub themselves : {B : Type 0} (g : Ty → B) (ts : List Ty) → map (λ (y : Ty × B). y.0) (map (λ t. (t, g t)) ts) ≡ ts
 themselves g [] = refl
@@ -71,3 +71,11 @@ shown_roll x = fold-roll-Ty (List ℕ) (λ t. shown_at t) x
 pub record IsLayer (L : Lineage) (x : Ty-F Ty) : Type 0 where
   pub fitting : IsTrue (fits_at (λ t. t) (fits L) L x)
   pub arranged : IsTrue (is_arranged_at (λ t. t) (is_arranged L) L x)
+
+typed-same : (x : Ty-F Ty) → is_typed_at (λ (b : Bool). b) (map-Ty Ty Bool is_typed x) ≡ is_typed_at is_typed x
+typed-same (Ty-F.Any parts) = all-mapped (λ (b : Bool). b) is_typed parts
+typed-same x = refl
+
+pub typed_is : (t : Ty) → is_typed t ≡ is_typed_at is_typed (out-Ty t)
+unfolding is_typed
+typed_is t = ap is_typed (sym (roll-out-Ty t)) ∙ fold-roll-Ty Bool (λ t. is_typed_at (λ b. b) t) (out-Ty t) ∙ typed-same (out-Ty t)

@@ -12,3 +12,6 @@ pub mod Rendering
 pub mod Unions
 pub mod Texts
 pub mod Telling
+pub mod Named
+pub mod Comparable
+pub mod Meetings

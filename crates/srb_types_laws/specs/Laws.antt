@@ -1,14 +1,14 @@
 -- What the operations on types do to their shapes, and that their answers are in normal form. In each law every shape belongs to
 -- `T.untyped`, and the unknown one to it alone, where nothing else is said.
-use Rattle.std.specs.Prelude.{◌≡◌, ◌↔◌, true, false, ◌||◌, [], ◌∷◌, IsTrue}
+use Rattle.std.specs.Prelude.{◌≡◌, ◌↔◌, ◌&&◌, true, false, ◌||◌, [], ◌∷◌, IsTrue}
 use Rattle.srb_terms.specs.declared.ty.Ty.{Ty}
 use Rattle.srb_terms.specs.declared.ty.Ty.TheVariants as ty
 use Rattle.srb_shapes.specs.Lineages.{Lineage, IsLineage}
 use Rattle.srb_shapes.specs.Parts.{parts_of}
 use Rattle.srb_shapes.specs.Shapes.{Shape, IsShape, belongs, IsSubtype}
-use Rattle.srb_types.specs.Normal.{any_of, is_untyped, without_of}
+use Rattle.srb_types.specs.Normal.{all_of, any_of, is_untyped, meet_of, one_untyped, without_of}
 use Rattle.srb_types.specs.Shown.{BOOLEAN, FALSE, TRUE, shown}
-use Rattle.srb_types_laws.specs.NormalForms.{Among, HasNoCircles, HasPlainNames, IsNormal, TextsTell}
+use Rattle.srb_types_laws.specs.NormalForms.{Among, HasNoCircles, HasPlainNames, IsNormal, TextsTell, is_typed}
 
 -- ---- unions
 
@@ -71,3 +71,19 @@ PlainNamesTellParts = (L : Lineage) → IsLineage L → HasPlainNames L → Text
 -- a class that is named `T::Boolean` would be shown as `T.any` of `FalseClass` and `TrueClass` is
 abbrev pub BooleanIsShownAlike : Type 0
 BooleanIsShownAlike = shown (ty.Class BOOLEAN) ≡ shown (ty.Any (ty.Class FALSE ∷ ty.Class TRUE ∷ []))
+
+-- ---- intersections
+
+-- `T.all` of two types lacks no shape that belongs to both, and where `T.untyped` stands in neither, it has exactly these
+abbrev pub IntersectionsHaveTheShapesOfBoth : Type 0
+IntersectionsHaveTheShapesOfBoth =
+    (L : Lineage) (t u : Ty) (s : Shape) → IsLineage L → IsNormal L t → IsNormal L u → IsShape true L s
+    → (IsTrue (belongs true L t s && belongs true L u s) → IsTrue (belongs true L (all_of L t u) s))
+    × (IsTrue (is_typed t && is_typed u) → belongs true L (all_of L t u) s ≡ (belongs true L t s && belongs true L u s))
+
+-- what a value is where it is known to be of two types: the same, but that `T.untyped` beside another type adds nothing
+abbrev pub MeetsHaveTheShapesOfBoth : Type 0
+MeetsHaveTheShapesOfBoth =
+    (L : Lineage) (t u : Ty) (s : Shape) → IsLineage L → IsNormal L t → IsNormal L u → IsShape true L s
+    → (IsTrue (belongs true L t s && belongs true L u s) → IsTrue (belongs true L (meet_of L t u) s))
+    × (IsTrue (one_untyped t u || (is_typed t && is_typed u)) → belongs true L (meet_of L t u) s ≡ (belongs true L t s && belongs true L u s))

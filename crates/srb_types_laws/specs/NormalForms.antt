@@ -1,7 +1,7 @@
 -- Types in normal form: what is asked of a type beside that its names are known.
 use Rattle.std.specs.Prelude.{◌≡◌, ◌⊎◌, ℕ, codes, bytes_eq, ◌-◌, Bool, true, false, not, ◌&&◌, List, [], ◌∷◌, map, nat_eq, IsTrue, if◌then◌else◌}
 use Rattle.std.specs.List.{list_all, list_any}
-use Rattle.srb_terms.specs.declared.ty.Ty.{Ty, out-Ty, para-Ty}
+use Rattle.srb_terms.specs.declared.ty.Ty.{Ty, out-Ty, fold-Ty, para-Ty}
 use Rattle.srb_terms.specs.declared.ty.Ty.TheOpen.{Ty-F}
 use Rattle.srb_shapes.specs.Comparing.{lies_in}
 use Rattle.srb_shapes.specs.Lineages.{Lineage, Has, is_body}
@@ -106,3 +106,16 @@ is_plain name = list_all (λ c. not (list_any (nat_eq c) (codes " (),[]."))) nam
 -- The names of classes and modules are plain, and none of them is `T::Boolean`, which two classes together are shown as.
 abbrev pub HasPlainNames : Lineage → Type 0
 HasPlainNames L = (c : List ℕ) → IsTrue (is_body (L.kind c)) → IsTrue (is_plain c && not (bytes_eq c BOOLEAN))
+
+-- ---- without `T.untyped`
+
+abbrev pub is_typed_at : {X : Type 0} → (X → Bool) → Ty-F X → Bool
+is_typed_at f Ty-F.Untyped = false
+is_typed_at f (Ty-F.Arr e) = f e
+is_typed_at f (Ty-F.Hsh k v) = f k && f v
+is_typed_at f (Ty-F.Any parts) = list_all f parts
+is_typed_at f _ = true
+
+-- whether no `T.untyped` stands in a type
+unfoldable pub is_typed : Ty → Bool
+is_typed = fold-Ty Bool (λ t. is_typed_at (λ b. b) t)
