@@ -15,3 +15,4 @@ pub mod Telling
 pub mod Named
 pub mod Comparable
 pub mod Meetings
+pub mod Results

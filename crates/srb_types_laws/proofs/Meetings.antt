@@ -53,7 +53,7 @@ parts-typed t h = go (out-Ty t) refl
     go (Ty-F.Hsh a b) e = and-both (is_typed t) _ h refl
     go (Ty-F.All ms) e = and-both (is_typed t) _ h refl
 
-rest-well : (L : Lineage) (q : Ty) (qs : List Ty) → AreWell L (q ∷ qs) → AreWell L qs
+pub rest-well : (L : Lineage) (q : Ty) (qs : List Ty) → AreWell L (q ∷ qs) → AreWell L qs
 rest-well L q qs g = record {
   fitting = and-second (fits L q) _ g.fitting;
   arranged = and-second (is_arranged L q) _ g.arranged;
@@ -61,6 +61,10 @@ rest-well L q qs g = record {
   ordered = and-second (list_all _ qs) _ g.ordered;
   apart = and-second (list_all (is_apart (lies_in L) q) qs) _ g.apart;
 }
+
+pub part-typed : (x : Ty-F Ty) → IsTrue (is_part_at x) → is_untyped_at x ≡ false
+part-typed Ty-F.Untyped h = cc
+part-typed x h = refl
 
 -- what is asked of a test a: b is enough for it, and where `sure` holds, a is enough for b
 record IsBounded (sure : Type 0) (a b : Bool) : Type 0 where
@@ -346,10 +350,6 @@ module _ (L : Lineage) (laws : IsLineage L) where
   over : (sure : Type 0) (s : Shape) (b : Bool) (xs ys : List Ty) → xs ≡ ys → IsBounded sure (list_any (λ p. belongs true L p s) xs) b
       → IsBounded sure (list_any (λ p. belongs true L p s) ys) b
   over sure s b xs ys e h = subst (λ l. IsBounded sure (list_any (λ p. belongs true L p s) l) b) e h
-
-  part-typed : (x : Ty-F Ty) → IsTrue (is_part_at x) → is_untyped_at x ≡ false
-  part-typed Ty-F.Untyped h = cc
-  part-typed x h = refl
 
   or-joins : (a b c d : Bool) → IsTrue (a || ((b || c) && d)) → IsTrue ((a || (b && d)) || (c && d))
   or-joins true b c d h = refl

@@ -31,7 +31,7 @@ and-true true = refl
 and-true false = refl
 
 -- what all of a list with one more pass, both pass
-placed-first : {A : Type 0} (p : A → Bool) (text : A → List ℕ) (x : A) (xs : List A) → IsTrue (list_all p (placed text x xs)) → IsTrue (p x) × IsTrue (list_all p xs)
+pub placed-first : {A : Type 0} (p : A → Bool) (text : A → List ℕ) (x : A) (xs : List A) → IsTrue (list_all p (placed text x xs)) → IsTrue (p x) × IsTrue (list_all p xs)
 placed-first p text x [] h = (and-first _ _ h, refl)
 placed-first {A} p text x (y ∷ ys) h = go (before_all text (text x) (y ∷ ys)) h (placed-first p text x ys)
   where
@@ -50,11 +50,11 @@ all-from-left p out (x ∷ xs) f h = go (out x) refl h (all-from-left p out xs f
     go true e k next = and-both (p x) _ (f x e) (next k)
     go false e k next = and-both (p x) _ (and-first _ _ k) (next (and-second (p x) _ k))
 
-apart-mapped : {A B : Type 0} (test : B → B → Bool) (g : A → B) (xs : List A) → all_apart test (map g xs) ≡ all_apart (λ x y. test (g x) (g y)) xs
+pub apart-mapped : {A B : Type 0} (test : B → B → Bool) (g : A → B) (xs : List A) → all_apart test (map g xs) ≡ all_apart (λ x y. test (g x) (g y)) xs
 apart-mapped test g [] = refl
 apart-mapped test g (x ∷ xs) = let a = all-mapped (is_apart test (g x)) g xs in let b = apart-mapped test g xs in λ i. a i && b i
 
-class-kind : (k : Option Kind) → is_class_kind k ≡ is_class k
+pub class-kind : (k : Option Kind) → is_class_kind k ≡ is_class k
 class-kind None = refl
 class-kind (Some kind.Class) = refl
 class-kind (Some kind.Module) = refl
@@ -68,7 +68,7 @@ named-members L (m ∷ ms) h = let
     rest = named-members L ms (λ n a. h n (inr a)) in
     (k.0 ∷ rest.0, λ i. k.1 i ∷ rest.1 i)
 
-class-names-are : (cs : List (List ℕ)) → class_names (map (λ c. ty.Class c) cs) ≡ cs
+pub class-names-are : (cs : List (List ℕ)) → class_names (map (λ c. ty.Class c) cs) ≡ cs
 class-names-are [] = refl
 class-names-are (c ∷ cs) = let
     e = ap class_name_at (ap out-Ty (sym (rolls-Class c)) ∙ out-roll-Ty (Ty-F.Class c)) in let

@@ -74,6 +74,10 @@ BooleanIsShownAlike = shown (ty.Class BOOLEAN) ≡ shown (ty.Any (ty.Class FALSE
 
 -- ---- intersections
 
+-- `T.all` of two types in normal form, and what a value is where it is known to be of both, are in normal form
+abbrev pub IntersectionsAreNormal : Type 0
+IntersectionsAreNormal = (L : Lineage) (t u : Ty) → IsLineage L → IsNormal L t → IsNormal L u → IsNormal L (all_of L t u) × IsNormal L (meet_of L t u)
+
 -- `T.all` of two types lacks no shape that belongs to both, and where `T.untyped` stands in neither, it has exactly these
 abbrev pub IntersectionsHaveTheShapesOfBoth : Type 0
 IntersectionsHaveTheShapesOfBoth =

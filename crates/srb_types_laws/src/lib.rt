@@ -1,7 +1,7 @@
 //! What the operations on types mean: which shapes their answers have, and that these are in normal form.
 #![tactic(auto)]
 
-ghost use Rattle.srb_types_laws.specs.Laws.{BooleanIsShownAlike, IntersectionsHaveTheShapesOfBoth, MeetsHaveTheShapesOfBoth, NormalFormsAreUnique, OtherShapesAreLeft, PlainNamesTellParts, ShownTextsTellTypes, SubtypesAreLeftOut, UnionsAreNormal, UnionsDoNotDependOnOrder, UnionsHaveTheShapesOfBoth, WhatIsLeftIsNormal};
+ghost use Rattle.srb_types_laws.specs.Laws.{BooleanIsShownAlike, IntersectionsAreNormal, IntersectionsHaveTheShapesOfBoth, MeetsHaveTheShapesOfBoth, NormalFormsAreUnique, OtherShapesAreLeft, PlainNamesTellParts, ShownTextsTellTypes, SubtypesAreLeftOut, UnionsAreNormal, UnionsDoNotDependOnOrder, UnionsHaveTheShapesOfBoth, WhatIsLeftIsNormal};
 
 /// `T.any` of two types in normal form is in normal form, and has exactly the shapes of both.
 pub fn unions_join_shapes()
@@ -32,9 +32,10 @@ pub fn shown_texts_tell_types()
     ensures boolean { BooleanIsShownAlike }
 {}
 
-/// `T.all` of two types in normal form, and what a value of both is, have the shapes that belong to both. `T.untyped` inside one of them
-/// may add others.
+/// `T.all` of two types in normal form, and what a value of both is, are in normal form and have the shapes that belong to both. `T.untyped`
+/// inside one of them may add others.
 pub fn intersections_meet_shapes()
+    ensures normal { IntersectionsAreNormal }
     ensures all { IntersectionsHaveTheShapesOfBoth }
     ensures meet { MeetsHaveTheShapesOfBoth }
 {}
