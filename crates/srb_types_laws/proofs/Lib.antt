@@ -16,3 +16,4 @@ pub mod Named
 pub mod Comparable
 pub mod Meetings
 pub mod Results
+pub mod Cutting

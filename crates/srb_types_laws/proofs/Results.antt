@@ -294,7 +294,7 @@ module _ (L : Lineage) (laws : IsLineage L) where
   all-untyped : (t u : Ty) → IsTrue (is_untyped t) → all_of L t u ≡ ty.Untyped
   all-untyped t u h = ap (λ b. if (b || is_untyped u) then ty.Untyped else of_parts (meets_of L t (parts_of u) [])) h
 
-  is-untyped : IsTrue (is_untyped ty.Untyped)
+  pub is-untyped : IsTrue (is_untyped ty.Untyped)
   is-untyped = ap is_untyped_at (ap out-Ty (sym rolls-Untyped) ∙ out-roll-Ty Ty-F.Untyped)
 
   -- the meet of two arguments
@@ -318,10 +318,10 @@ module _ (L : Lineage) (laws : IsLineage L) where
   abbrev plain : Ty-F Adds → Ty-F Ty
   plain y = map-Ty Adds Ty it y
 
-  arr-part : (x : Ty) → IsTrue (is_part (ty.Arr x))
+  pub arr-part : (x : Ty) → IsTrue (is_part (ty.Arr x))
   arr-part x = ap is_part_at (ap out-Ty (sym (rolls-Arr x)) ∙ out-roll-Ty (Ty-F.Arr x))
 
-  hsh-part : (x y : Ty) → IsTrue (is_part (ty.Hsh x y))
+  pub hsh-part : (x y : Ty) → IsTrue (is_part (ty.Hsh x y))
   hsh-part x y = ap is_part_at (ap out-Ty (sym (rolls-Hsh x y)) ∙ out-roll-Ty (Ty-F.Hsh x y))
 
   module _ (n : ℕ) (p q : Ty) (g : IsGood L n p × IsTrue (is_part p)) (h : IsGood L n q × IsTrue (is_part q)) where

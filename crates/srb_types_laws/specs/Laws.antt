@@ -6,7 +6,7 @@ use Rattle.srb_terms.specs.declared.ty.Ty.TheVariants as ty
 use Rattle.srb_shapes.specs.Lineages.{Lineage, IsLineage}
 use Rattle.srb_shapes.specs.Parts.{parts_of}
 use Rattle.srb_shapes.specs.Shapes.{Shape, IsShape, belongs, IsSubtype}
-use Rattle.srb_types.specs.Normal.{all_of, any_of, is_untyped, meet_of, one_untyped, without_of}
+use Rattle.srb_types.specs.Normal.{all_of, any_of, array_of, hash_of, is_shallow, is_untyped, meet_of, one_untyped, without_of}
 use Rattle.srb_types.specs.Shown.{BOOLEAN, FALSE, TRUE, shown}
 use Rattle.srb_types_laws.specs.NormalForms.{Among, HasNoCircles, HasPlainNames, IsNormal, TextsTell, is_typed}
 
@@ -91,3 +91,20 @@ MeetsHaveTheShapesOfBoth =
     (L : Lineage) (t u : Ty) (s : Shape) → IsLineage L → IsNormal L t → IsNormal L u → IsShape true L s
     → (IsTrue (belongs true L t s && belongs true L u s) → IsTrue (belongs true L (meet_of L t u) s))
     × (IsTrue (one_untyped t u || (is_typed t && is_typed u)) → belongs true L (meet_of L t u) s ≡ (belongs true L t s && belongs true L u s))
+
+-- ---- arrays and hashes
+
+-- the array of a type in normal form, and the hash of two, are in normal form
+abbrev pub ArraysAndHashesAreNormal : Type 0
+ArraysAndHashesAreNormal =
+    (L : Lineage) (t u : Ty) → IsLineage L → IsNormal L t → IsNormal L u → IsNormal L (array_of L t) × IsNormal L (hash_of L t u)
+
+-- They lack no shape, though they are cut at eight levels, and hold the types as these are where no array or hash of them stands inside
+-- seven others.
+abbrev pub ArraysAndHashesKeepShapes : Type 0
+ArraysAndHashesKeepShapes =
+    (L : Lineage) (t u : Ty) (s : Shape) → IsLineage L → IsNormal L t → IsNormal L u → IsShape true L s
+    → (IsTrue (belongs true L (ty.Arr t) s) → IsTrue (belongs true L (array_of L t) s))
+    × (IsTrue (belongs true L (ty.Hsh t u) s) → IsTrue (belongs true L (hash_of L t u) s))
+    × (IsTrue (is_shallow t 7) → array_of L t ≡ ty.Arr t)
+    × (IsTrue (is_shallow t 7 && is_shallow u 7) → hash_of L t u ≡ ty.Hsh t u)

@@ -1,7 +1,7 @@
 //! What the operations on types mean: which shapes their answers have, and that these are in normal form.
 #![tactic(auto)]
 
-ghost use Rattle.srb_types_laws.specs.Laws.{BooleanIsShownAlike, IntersectionsAreNormal, IntersectionsHaveTheShapesOfBoth, MeetsHaveTheShapesOfBoth, NormalFormsAreUnique, OtherShapesAreLeft, PlainNamesTellParts, ShownTextsTellTypes, SubtypesAreLeftOut, UnionsAreNormal, UnionsDoNotDependOnOrder, UnionsHaveTheShapesOfBoth, WhatIsLeftIsNormal};
+ghost use Rattle.srb_types_laws.specs.Laws.{ArraysAndHashesAreNormal, ArraysAndHashesKeepShapes, BooleanIsShownAlike, IntersectionsAreNormal, IntersectionsHaveTheShapesOfBoth, MeetsHaveTheShapesOfBoth, NormalFormsAreUnique, OtherShapesAreLeft, PlainNamesTellParts, ShownTextsTellTypes, SubtypesAreLeftOut, UnionsAreNormal, UnionsDoNotDependOnOrder, UnionsHaveTheShapesOfBoth, WhatIsLeftIsNormal};
 
 /// `T.any` of two types in normal form is in normal form, and has exactly the shapes of both.
 pub fn unions_join_shapes()
@@ -38,4 +38,10 @@ pub fn intersections_meet_shapes()
     ensures normal { IntersectionsAreNormal }
     ensures all { IntersectionsHaveTheShapesOfBoth }
     ensures meet { MeetsHaveTheShapesOfBoth }
+{}
+
+/// Arrays and hashes of types in normal form are in normal form, and lack no shape.
+pub fn arrays_and_hashes_keep_shapes()
+    ensures normal { ArraysAndHashesAreNormal }
+    ensures shapes { ArraysAndHashesKeepShapes }
 {}
