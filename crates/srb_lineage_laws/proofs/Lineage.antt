@@ -1,15 +1,13 @@
 -- The linearizations by links that lead in no circle are closed, and their classes form chains.
-use Rattle.std.proofs.Common.{◌≡◌, ℕ, suc, zero, ◌⊎◌, Bool, true, false, List, [], ◌∷◌, ◌++◌, length, Option, Some, None, cond, bytes_eq, refl, sym, ap, subst, ◌∙◌, inl, inr}
-use Rattle.std.specs.Bool.{IsTrue}
-use Rattle.srb_terms.specs.NameSets.{has_name}
+use Rattle.std.proofs.Common.{◌≡◌, ℕ, suc, zero, ◌⊎◌, List, [], ◌∷◌, length, Option, Some, bytes_eq, sym, subst, inl, inr}
 use Rattle.srb_terms.specs.declared.fact.How.{How}
 use Rattle.srb_terms.specs.declared.fact.How.TheVariants.{Super, Include, Extend}
 use Rattle.srb_terms.specs.declared.fact.Kind.{Kind}
 use Rattle.srb_terms.specs.declared.fact.Kind.TheVariants as kind
 use Rattle.srb_rules.specs.declared.link.Link.{Link}
-use Rattle.srb_rules.specs.Links.{HasLink, Reaches, Leads}
+use Rattle.srb_rules.specs.Links.{HasLink, Reaches}
 use Rattle.srb_rules.specs.Links.Reaches.{Directly, Through}
-use Rattle.srb_rules.specs.Lin.{links_of, superclass_in, included_in, with_modules, lin_below, lin_by, lin_step, lin_of}
+use Rattle.srb_rules.specs.Lin.{links_of, superclass_in, included_in, with_modules, lin_below, lin_of}
 use Rattle.srb_ancestors.specs.Placing.{NoneReachesItself}
 use Rattle.srb_ancestors.specs.Ways.{HasEnd}
 use Rattle.srb_ancestors.proofs.LawProofs.{equation_holds, members_are_reached}
@@ -18,7 +16,7 @@ use Rattle.srb_ancestors.proofs.WayProofs.{Ends, all_end}
 use Rattle.srb_shapes.specs.Lineages.{Has}
 use Rattle.srb_shapes_laws.proofs.Bools.{either}
 use Rattle.srb_lineage_laws.proofs.Links.{GoodAs, IsGood, EachLink, links-filtered}
-use Rattle.srb_lineage_laws.proofs.Rows.{in-first, in-second, in-one, FromModule, modules-from, modules-own, modules-add, FromBelow, below-from, included-modules}
+use Rattle.srb_lineage_laws.proofs.Rows.{in-first, in-second, in-one, FromModule, modules-from, modules-own, modules-add, below-from, included-modules}
 
 -- ---- kinds along links
 

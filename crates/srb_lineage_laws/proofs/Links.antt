@@ -1,6 +1,5 @@
 -- Which links facts give: a superclass is a class of a class, and an included module is a module.
-use Rattle.std.proofs.Common.{◌≡◌, ℕ, ◌⊎◌, Bool, true, false, not, ◌&&◌, List, [], ◌∷◌, Option, Some, None, cond, refl, sym, ap, subst, ◌∙◌, inl, inr, unwrap_or, bytes_eq}
-use Rattle.std.specs.Bool.{IsTrue}
+use Rattle.std.proofs.Common.{◌≡◌, ℕ, Bool, true, false, not, ◌&&◌, List, [], ◌∷◌, Option, Some, None, cond, refl, ap, subst, unwrap_or, bytes_eq}
 use Rattle.std.specs.List.{filter, filter_map, cons_option}
 use Rattle.std.specs.Option.{option_or, option_and_then, option_map}
 use Rattle.srb_terms.specs.declared.fact.Fact.{Fact}
@@ -10,11 +9,10 @@ use Rattle.srb_terms.specs.declared.fact.How.TheVariants.{Super, Include, Extend
 use Rattle.srb_terms.specs.declared.fact.Kind.{Kind}
 use Rattle.srb_terms.specs.declared.fact.Kind.TheVariants as kind
 use Rattle.srb_rules.specs.declared.link.Link.{Link}
-use Rattle.srb_rules.specs.FullNames.{OBJECT, BASIC_OBJECT, ARRAY, HASH}
-use Rattle.srb_rules.specs.Kinds.{is_class, is_module, is_body, kind_of}
-use Rattle.srb_rules.specs.Links.{HasLink, counted, is_circular}
-use Rattle.srb_rules.specs.Lin.{links_of}
-use Rattle.srb_rules.specs.Parents.{parent_named, is_inheritable, inherited_by, mixed_by, inherited, mixed_in, superclass_in, first_superclass, deciding, superclass_by, superclass_of, super_link, include_link, link_in, links}
+use Rattle.srb_rules.specs.FullNames.{OBJECT, BASIC_OBJECT, ARRAY}
+use Rattle.srb_rules.specs.Kinds.{is_class, is_module, kind_of}
+use Rattle.srb_rules.specs.Links.{counted, is_circular}
+use Rattle.srb_rules.specs.Parents.{parent_named, is_inheritable, inherited, mixed_in, superclass_in, first_superclass, deciding, superclass_of, super_link, include_link, link_in, links}
 use Rattle.srb_shapes_laws.proofs.Bools.{and-first}
 
 abbrev pub GoodAs : (List ℕ → Option Kind) → How → List ℕ → List ℕ → Type 0

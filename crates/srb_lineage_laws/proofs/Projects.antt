@@ -1,5 +1,5 @@
 -- The lineage of a project.
-use Rattle.std.proofs.Common.{◌≡◌, ℕ, ◌⊎◌, Bool, true, false, List, [], ◌∷◌, Option, Some, None, cond, refl, sym, ap, subst, ◌∙◌, inl, inr}
+use Rattle.std.proofs.Common.{◌≡◌, ℕ, List, Option, Some, None, cond, refl, sym, ap, subst, inl, inr}
 use Rattle.std.specs.Bool.{IsTrue}
 use Rattle.srb_terms.specs.declared.fact.Fact.{Fact}
 use Rattle.srb_terms.specs.declared.fact.Kind.{Kind}
@@ -9,14 +9,16 @@ use Rattle.srb_rules.specs.FullNames.{OBJECT}
 use Rattle.srb_rules.specs.Kinds as rules
 use Rattle.srb_rules.specs.Kinds.{kind_of}
 use Rattle.srb_rules.specs.Lin.{lin_of}
-use Rattle.srb_rules.specs.Links.{counted}
+use Rattle.srb_rules.specs.Links.{Reaches, counted}
 use Rattle.srb_rules.specs.Parents.{links}
 use Rattle.srb_rules.specs.Resolves.{lin_in}
 use Rattle.srb_rules.specs.Standing.{Stands}
-use Rattle.srb_ancestors.proofs.LawProofs.{counted_have_none}
-use Rattle.srb_shapes.specs.Lineages.{Lineage, Has, IsLineage, is_body, is_class, lineage_at, or_none}
+use Rattle.srb_ancestors.proofs.LawProofs.{counted_have_none, members_are_reached}
+use Rattle.srb_ancestors.proofs.LinkProofs.{reaches_on}
+use Rattle.srb_shapes.specs.Lineages.{Has, IsLineage, is_body, is_class, lineage_at, or_none}
 use Rattle.srb_shapes_laws.proofs.Bools.{either}
-use Rattle.srb_lineage_laws.specs.Projects.{lineage_by, FactsGiveLineages, TablesGiveLineages}
+use Rattle.srb_types_laws.specs.NormalForms.{HasNoCircles}
+use Rattle.srb_lineage_laws.specs.Projects.{lineage_by, FactsGiveLineages, FactsHaveNoCircles, TablesGiveLineages, TablesHaveNoCircles}
 use Rattle.srb_lineage_laws.proofs.Links.{counted-good}
 use Rattle.srb_lineage_laws.proofs.Lineage.{IsBody, members-bodies, members-modules, own, closed, chain}
 
@@ -79,6 +81,15 @@ module _ (fs : List Fact) (root : kind_of fs OBJECT ≡ Some kind.Class) where
         members-modules (kind_of fs) (counted (links fs)) (counted_have_none (links fs)) (counted-good fs root) c a e s.1;
   }
 
+  -- a name that another one inherits from doesn't inherit from that one
+  facts-apart : HasNoCircles (lineage_by fs)
+  facts-apart c d h k = let s = shut c d h in let t = shut d c k in
+      either (λ e. e)
+      (λ (r : Reaches (counted (links fs)) c d). either (λ (e : d ≡ c). sym e)
+      (λ (b : Reaches (counted (links fs)) d c). absurd (counted_have_none (links fs) c (reaches_on (counted (links fs)) c d r c b)))
+      (members_are_reached (counted (links fs)) d c t.1))
+      (members_are_reached (counted (links fs)) c d s.1)
+
 pub facts_give : FactsGiveLineages
 facts_give fs root = facts-give fs root
 
@@ -89,3 +100,11 @@ table_lineage w fs stands = λ i. record { kind = λ c. stands.kinds c i; lin = 
 
 pub tables_give : TablesGiveLineages
 tables_give w fs stands root = subst IsLineage (sym (table_lineage w fs stands)) (facts_give fs root)
+
+-- ---- circles
+
+pub facts_apart : FactsHaveNoCircles
+facts_apart fs root = facts-apart fs root
+
+pub tables_apart : TablesHaveNoCircles
+tables_apart w fs stands root = subst HasNoCircles (sym (table_lineage w fs stands)) (facts_apart fs root)

@@ -1,6 +1,5 @@
 -- What stands in the list of a name, by its own links.
-use Rattle.std.proofs.Common.{◌≡◌, ℕ, ◌⊎◌, Bool, true, false, not, ◌||◌, List, [], ◌∷◌, ◌++◌, Option, Some, None, cond, bytes_eq, refl, sym, ap, subst, ◌∙◌, inl, inr}
-use Rattle.std.specs.Bool.{IsTrue}
+use Rattle.std.proofs.Common.{◌≡◌, ℕ, ◌⊎◌, Bool, true, false, not, ◌||◌, List, [], ◌∷◌, ◌++◌, Option, Some, cond, bytes_eq, refl, sym, ap, subst, ◌∙◌, inl, inr}
 use Rattle.std.specs.List.{filter}
 use Rattle.srb_terms.specs.NameSets.{has_name}
 use Rattle.srb_terms.specs.declared.fact.How.{How}
@@ -13,7 +12,7 @@ use Rattle.srb_ancestors.specs.Placing.{Each}
 use Rattle.srb_ancestors.specs.Ways.{HasEnd}
 use Rattle.srb_ancestors.proofs.LinProofs.{each_append, each_has}
 use Rattle.srb_shapes.specs.Lineages.{Has}
-use Rattle.srb_shapes_laws.proofs.Bools.{either, or-cases, or-left, or-right, same-name, name-itself, by-test, has-append}
+use Rattle.srb_shapes_laws.proofs.Bools.{either, or-cases, or-left, or-right, same-name, name-itself, has-append}
 use Rattle.srb_lineage_laws.proofs.Links.{GoodAs, IsGood, EachLink}
 
 -- ---- lists of names
