@@ -21,16 +21,16 @@ module _ (es fs : List Token) where
   statement : {constants : Bool} {t : Tree} {xs ys : List Token} → PlainStatement constants t xs ys → Keeps es fs (PlainStatement constants t) xs ys
   statement d zs h = let z = kept.modified es fs d.modified zs h in let y = kept.simple es fs d.simple z.0 z.1 in (y.0, y.1, record { inner = d.inner; after = z.0; simple = y.2; modified = z.2 })
 
-  others : {constants : Bool} {ts : List Tree} {xs ys : List Token} → PlainMore constants ts xs ys → Keeps es fs (PlainMore constants ts) xs ys
-  others (NoMore _ _) zs h = (zs, h, NoMore _ _)
-  others (Another _ t _ _ _ _ _ _ is d e f) zs h =
-      let z = others f zs h in let y = statement e z.0 z.1 in let x = kept.gap es fs d y.0 y.1 in
+  more : {constants : Bool} {ts : List Tree} {xs ys : List Token} → PlainMore constants ts xs ys → Keeps es fs (PlainMore constants ts) xs ys
+  more (NoMore _ _) zs h = (zs, h, NoMore _ _)
+  more (Another _ t _ _ _ _ _ _ is d e f) zs h =
+      let z = more f zs h in let y = statement e z.0 z.1 in let x = kept.gap es fs d y.0 y.1 in
       (t ∷ x.0, Keep x.1, Another _ _ _ _ _ _ _ _ is x.2 y.2 z.2)
 
   body : {constants : Bool} {t : Tree} {xs ys : List Token} → PlainBody constants t xs ys → Keeps es fs (PlainBody constants t) xs ys
   body (NoStatement _ _ _ d) zs h = let z = kept.gap es fs d zs h in (z.0, z.1, NoStatement _ _ _ z.2)
   body (Statements _ _ _ _ _ _ _ _ d e f g) zs h =
-      let z = kept.gap es fs g zs h in let y = others f z.0 z.1 in let x = statement e y.0 y.1 in let w = kept.gap es fs d x.0 x.1 in
+      let z = kept.gap es fs g zs h in let y = more f z.0 z.1 in let x = statement e y.0 y.1 in let w = kept.gap es fs d x.0 x.1 in
       (w.0, w.1, Statements _ _ _ _ _ _ _ _ w.2 x.2 y.2 z.2)
 
   form-of : (form : Form) (t : Tree) (xs ys : List Token) → IsForm form t xs ys → Keeps es fs (IsForm form t) xs ys
