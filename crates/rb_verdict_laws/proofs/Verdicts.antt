@@ -10,12 +10,12 @@ use Rattle.rb_expr.specs.declared.ParseEnd.TheVariants.{Bad, TooDeep, NoMemory}
 use Rattle.rb_decl.specs.Programs.{end_of, parsed, parsed_by, program, token_start, whole, whole_of, cut, cut_of}
 use Rattle.rb_rules.specs.Grammar.{Begins, BadAt, EndsEarly}
 use Rattle.rb_weight_laws.proofs.Laws.{programs-are-deep-by-roles, fronts-are-deep-by-roles}
-use Rattle.rb_grammar_laws.proofs.Answers.{parsed-exactly}
+use Rattle.rb_grammar_laws.proofs.Answers.{parsed-exactly, programs-answer}
 use Rattle.rb_refusal_laws.proofs.Fronts.{one-front, no-end-is-bad}
 use Rattle.rb_refusal_laws.proofs.Places.{answer, end-of-error, bad-places-are-exact, deep-places-are-exact}
 use Rattle.rb_refusal_laws.proofs.Refused.{bad-tokens-are-refused, early-ends-are-refused, deep-tokens-are-refused}
 use Rattle.rb_verdict_laws.specs.Verdicts.{Verdict, Holds, IsProgram, IsBadToken, IsShort, IsDeepToken, start_at}
-use Rattle.rb_verdict_laws.specs.Laws.{OneHolds, NoTwoHold, VerdictsAreAnswered, Says, AnswersHold}
+use Rattle.rb_verdict_laws.specs.Laws.{OneHolds, NoTwoHold, OneTree, VerdictsAreAnswered, Says, AnswersHold}
 use Rattle.rb_verdict_laws.proofs.Depths.{order, deep-further, deep-nearer, fronts-begin, got-after, light-by-pass, light-by-roles, one-deep}
 
 -- ---- what a verdict says of the pass over tokens
@@ -177,3 +177,8 @@ no-two-hold tokens (Verdict.DeepToken a) (Verdict.Program u) v w = absurd (progr
 no-two-hold tokens (Verdict.DeepToken a) (Verdict.BadToken b) v w = absurd (not-both tokens (start_at tokens b) (start_at tokens a) (bad-answered tokens b w) (deep-answered tokens a v))
 no-two-hold tokens (Verdict.DeepToken a) Verdict.Short v w = absurd (not-both tokens (end_of tokens) (start_at tokens a) (short-answered tokens w) (deep-answered tokens a v))
 no-two-hold tokens (Verdict.DeepToken a) (Verdict.DeepToken b) v w = ap (λ n. Verdict.DeepToken n) (one-deep tokens a b (deep-by-pass tokens a v) (deep-by-pass tokens b w))
+
+-- ---- one tree
+
+pub one-tree : OneTree
+one-tree tokens t u d e = let f = programs-answer tokens t d in let g = programs-answer tokens u e in cc

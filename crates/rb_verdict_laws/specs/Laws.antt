@@ -6,7 +6,7 @@ use Rattle.rb_weight.specs.Weights.{DeepAt}
 use Rattle.rb_expr.specs.declared.ParseEnd.{ParseEnd}
 use Rattle.rb_expr.specs.declared.ParseEnd.TheVariants.{Bad, TooDeep, NoMemory}
 use Rattle.rb_decl.specs.Programs.{Parses, end_of, parsed}
-use Rattle.rb_rules.specs.Grammar.{BadAt}
+use Rattle.rb_rules.specs.Grammar.{BadAt, Derives}
 use Rattle.rb_verdict_laws.specs.Verdicts.{Verdict, Holds, start_at}
 
 -- ---- one of four
@@ -18,6 +18,10 @@ OneHolds = (tokens : List Token) → (v : Verdict) × Holds tokens v
 -- No two hold, nor one of them with two trees or at two tokens.
 abbrev pub NoTwoHold : Type 0
 NoTwoHold = (tokens : List Token) (v w : Verdict) → Holds tokens v → Holds tokens w → v ≡ w
+
+-- no tokens have two trees, however deep they nest
+abbrev pub OneTree : Type 0
+OneTree = (tokens : List Token) (t u : Tree) → Derives tokens t → Derives tokens u → t ≡ u
 
 -- ---- what is answered
 

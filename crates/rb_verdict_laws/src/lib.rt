@@ -6,12 +6,14 @@
 #![tactic(auto)]
 
 ghost use Rattle.rb_verdict_laws.specs.Examples.{BracketIsBad, NameIsWanted, NegationIsDeep, SumIsProgram};
-ghost use Rattle.rb_verdict_laws.specs.Laws.{AnswersHold, LesserPlacesAreRefused, NoTwoHold, OneHolds, VerdictsAreAnswered};
+ghost use Rattle.rb_verdict_laws.specs.Laws.{AnswersHold, LesserPlacesAreRefused, NoTwoHold, OneHolds, OneTree, VerdictsAreAnswered};
 
-/// One verdict holds of each list of tokens, and no two do: there is one tree, one bad token or one that is the first to be too deep.
+/// One verdict holds of each list of tokens, and no two do: there is one tree, one bad token or one that is the first to be too deep. No
+/// tokens have two trees, however deep they nest.
 pub fn one_verdict_holds()
     ensures one { OneHolds }
     ensures only { NoTwoHold }
+    ensures tree { OneTree }
 {}
 
 /// `parse` of `rb_decl` answers by the verdict that holds: the tree, or the refusal of this kind at this place. What it answers says
