@@ -22,11 +22,11 @@ use Rattle.rb_places_laws.specs.ErrorPlaces.{HasParts, HasNode, HasErrorPlaces}
 
 -- ---- a fact of each element, and the same fact of what the elements are mapped to
 
-each-mapped : {A B : Type 0} (S : A → Type 0) (Q : B → Type 0) (f : A → B) → ((x : A) → S x ≡ Q (f x)) → (xs : List A) → Each S xs ≡ Each Q (map f xs)
+pub each-mapped : {A B : Type 0} (S : A → Type 0) (Q : B → Type 0) (f : A → B) → ((x : A) → S x ≡ Q (f x)) → (xs : List A) → Each S xs ≡ Each Q (map f xs)
 each-mapped S Q f h [] = refl
 each-mapped S Q f h (x ∷ xs) = λ i. h x i × each-mapped S Q f h xs i
 
-both : {A B C D : Type 0} → A ≡ C → B ≡ D → (A × B) ≡ (C × D)
+pub both : {A B C D : Type 0} → A ≡ C → B ≡ D → (A × B) ≡ (C × D)
 both p q = λ i. p i × q i
 
 three : {A B C A' B' C' : Type 0} → A ≡ A' → B ≡ B' → C ≡ C' → (A × B × C) ≡ (A' × B' × C')
@@ -90,7 +90,7 @@ module _ (P : Span → Type 0) where
         g
 
     -- the places in a node are told by those in the trees in it
-    same-parts : (x : Node-F N X) → Same x
+    pub same-parts : (x : Node-F N X) → Same x
     same-parts (Node-F.Body statements span) = each-mapped _ _ _ (λ x. refl) statements
     same-parts (Node-F.Jump word None span) = refl
     same-parts (Node-F.Jump word (Some value) span) = refl
@@ -130,7 +130,7 @@ module _ (P : Span → Type 0) where
     same-place (Node-F.Body statements span) = refl
     same-place x = refl
 
-    same-node : (x : Node-F N X) → HasNode P Has place x ≡ HasNode P k span_of (plain x)
+    pub same-node : (x : Node-F N X) → HasNode P Has place x ≡ HasNode P k span_of (plain x)
     same-node x = both (ap P (same-place x)) (same-parts x)
 
   rolled : (r : Node-F Node Tree) → HasErrorPlaces P (record { node = roll-Node r }) ≡ HasNode P (HasErrorPlaces P) span_of r

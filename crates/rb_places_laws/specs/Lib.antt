@@ -1,2 +1,4 @@
 pub mod ErrorPlaces
+pub mod Examples
 pub mod TokenPlaces
+pub mod TreePlaces
