@@ -6,6 +6,7 @@ use Rattle.rb_tree.specs.declared.syntax.Tree.{Tree}
 use Rattle.rb_rules.specs.Grammar.{Derives}
 use Rattle.rb_rules.specs.Tokens.{IsOneOf}
 use Rattle.rb_grammar.specs.Places.{Each, IsPlaced, StandsAt}
+use Rattle.rb_places_laws.specs.TreePlaces.{IsPlaceIn}
 use Rattle.srb_declarations.specs.declared.declaration.Declaration.{Declaration}
 use Rattle.srb_declarations.specs.declared.declaration.Declaration.TheVariants as declaration
 use Rattle.srb_declarations.specs.Declarations.{declarations_of}
@@ -60,3 +61,9 @@ IsInOrder tokens d = IsPlaced tokens (place_of d)
 -- The declarations of a program stand at its tokens, each from a token to that token or a later one.
 abbrev pub ProgramsDeclareAtTokens : Type 0
 ProgramsDeclareAtTokens = (tokens : List Token) (t : Tree) → Derives tokens t → Each (IsInOrder tokens) (declarations_of t)
+
+-- ---- trees
+
+-- Each declaration of a tree stands at a place that the tree carries.
+abbrev pub DeclarationsStandInTrees : Type 0
+DeclarationsStandInTrees = (t : Tree) → Each (λ d. IsPlaceIn t (place_of d)) (declarations_of t)

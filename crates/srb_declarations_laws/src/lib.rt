@@ -1,7 +1,8 @@
 //! The laws on the places of a program's declarations. They rest on the laws of the grammar, without which the program is built.
 #![tactic(auto)]
 
-ghost use Rattle.srb_declarations_laws.specs.Placed.{DeclarationsStandAtTokens, ProgramsDeclareAtTokens};
+ghost use Rattle.srb_declarations_laws.specs.Examples.{LabelledIsAPlace};
+ghost use Rattle.srb_declarations_laws.specs.Placed.{DeclarationsStandAtTokens, DeclarationsStandInTrees, ProgramsDeclareAtTokens};
 
 /// Where a tree stands at tokens, so do its declarations.
 ///
@@ -16,4 +17,11 @@ pub fn declarations_stand_at_tokens()
 /// Each declaration of a program begins where one of its tokens begins, and ends where that token or a later one ends.
 pub fn programs_declare_at_tokens()
     ensures { ProgramsDeclareAtTokens }
+{}
+
+/// Each declaration of any tree stands at a place that the tree carries: at the path that a class or module declares, at the constant that is
+/// assigned to, at a superclass, and at an argument of `include` or `extend` or the path with which it begins.
+pub fn declarations_stand_in_trees()
+    ensures trees { DeclarationsStandInTrees }
+    ensures labelled { LabelledIsAPlace }
 {}
