@@ -1,3 +1,6 @@
+mod Examples
 pub mod Parts
 pub mod Programs
+pub mod Trees
 pub mod Types
+mod Visits

@@ -1,5 +1,5 @@
--- The parts of a program that are read stand at its tokens, where the program does.
-use Rattle.std.proofs.Common.{inl, inr, ℕ, zero, suc, ◌<◌, Bool, true, false, if◌then◌else◌, List, [], ◌∷◌, length, length-append, Option, Some, None, sym, ap, subst, arith}
+-- The parts of type expressions stand at the tokens of a program, where the program does.
+use Rattle.std.proofs.Common.{inl, inr, Bool, true, false, if◌then◌else◌, List, [], ◌∷◌, Option}
 use Rattle.rb_tree.specs.Trees.{span_at, span_of, span_of_node}
 use Rattle.rb_tree.specs.declared.token.Token.{Token}
 use Rattle.rb_tree.specs.declared.syntax.Argument.{Argument}
@@ -17,22 +17,14 @@ use Rattle.rb_tree.specs.declared.syntax.Node.{Node, out-Node}
 use Rattle.rb_tree.specs.declared.syntax.Node.TheOpen.{Node-F}
 use Rattle.rb_grammar.specs.Places.{Each, IfThere, StandsAt, DoesNodeStand, DoesArgumentStand, DoesBlockStand, DoesSuffixStand, DoesPieceStand, DoesPairStand, DoesParameterStand, DoesRescueStand, DoesGuardedStand}
 use Rattle.rb_grammar.proofs.Nodes.{opened}
+use Rattle.rb_grammar.proofs.Placed.{each-weaker}
+use Rattle.rb_places_laws.proofs.TreePlaces.{if-weaker}
 use Rattle.srb_sig.specs.Views.{View}
-use Rattle.srb_references.specs.declared.reading.Reading.TheVariants as reading
-use Rattle.srb_references.specs.Readings.{Visit, visit, parts}
-use Rattle.srb_references.specs.References.{row_visits, below, below_by_node, visits}
-use Rattle.srb_references.specs.MalformedTypes.{is_type_part, own_types, types_of, is_malformed, malformed_type, malformed_errors_of}
-use Rattle.srb_references.proofs.Equations.{below_is}
-use Rattle.srb_references_laws.proofs.Parts.{each-append, each-flat, OfArgument, OfBlock, OfSuffix, OfPiece, OfPair, OfRescue, OfGuarded, OfParameter, OfNode, OfVisit, parts-all}
+use Rattle.srb_references.specs.Readings.{Visit}
+use Rattle.srb_references.specs.MalformedTypes.{types_of, is_malformed, malformed_type, malformed_errors_of}
+use Rattle.srb_references_laws.proofs.Parts.{each-flat, OfArgument, OfBlock, OfSuffix, OfPiece, OfPair, OfRescue, OfGuarded, OfParameter, OfNode, OfVisit}
+use Rattle.srb_references_laws.proofs.Visits.{types-kept}
 use Rattle.srb_references_laws.specs.Placed.{IsTreePlaced, IsErrorPlaced, MalformedTypesStandAtTokens}
-
-each-as : {A : Type 0} (P Q : A → Type 0) → ((x : A) → P x → Q x) → (xs : List A) → Each P xs → Each Q xs
-each-as P Q f [] h = tt
-each-as P Q f (x ∷ xs) h = (f x h.0, each-as P Q f xs h.1)
-
-if-as : {A : Type 0} (P Q : A → Type 0) → ((x : A) → P x → Q x) → (x : Option A) → IfThere P x → IfThere Q x
-if-as P Q f None h = tt
-if-as P Q f (Some x) h = f x h
 
 module _ (tokens : List Token) where
   abbrev Stands : Tree → Type 0
@@ -46,13 +38,13 @@ module _ (tokens : List Token) where
   argument-of (argument.Block span value) h = h.1
 
   arguments-of : (xs : List (Argument Tree)) → Each (DoesArgumentStand tokens Stands) xs → Each (OfArgument Stands) xs
-  arguments-of = each-as (DoesArgumentStand tokens Stands) (OfArgument Stands) argument-of
+  arguments-of = each-weaker (DoesArgumentStand tokens Stands) (OfArgument Stands) argument-of
 
   given-of : (xs : Option (List (Argument Tree))) → IfThere (Each (DoesArgumentStand tokens Stands)) xs → IfThere (Each (OfArgument Stands)) xs
-  given-of = if-as (Each (DoesArgumentStand tokens Stands)) (Each (OfArgument Stands)) arguments-of
+  given-of = if-weaker (Each (DoesArgumentStand tokens Stands)) (Each (OfArgument Stands)) arguments-of
 
   block-of : (b : Option (Block Tree)) → IfThere (DoesBlockStand tokens Stands) b → IfThere (OfBlock Stands) b
-  block-of = if-as (DoesBlockStand tokens Stands) (OfBlock Stands) (λ b h. h.2)
+  block-of = if-weaker (DoesBlockStand tokens Stands) (OfBlock Stands) (λ b h. h.2)
 
   suffix-of : (s : Suffix Tree) → DoesSuffixStand tokens Stands s → OfSuffix Stands s
   suffix-of (suffix.Call how name name_span arguments block span) h = (given-of arguments h.2, block-of block h.3)
@@ -68,7 +60,7 @@ module _ (tokens : List Token) where
   pair-of (pair.Label name span value) h = h.1
 
   guarded-of : (g : Guarded Tree) → DoesGuardedStand tokens Stands g → OfGuarded Stands g
-  guarded-of g h = (h.0, each-as (DoesRescueStand tokens Stands) (OfRescue Stands) (λ r k. (k.0, k.2)) g.rescues h.1, h.2, h.3)
+  guarded-of g h = (h.0, each-weaker (DoesRescueStand tokens Stands) (OfRescue Stands) (λ r k. (k.0, k.2)) g.rescues h.1, h.2, h.3)
 
   node-of : (n : Node-F Node Tree) → DoesNodeStand tokens Stands n → OfNode Stands n
   node-of (Node-F.Body [] span) h = tt
@@ -81,13 +73,13 @@ module _ (tokens : List Token) where
   node-of (Node-F.Conditional condition positive negative span) h = (h.1, h.2, h.3)
   node-of (Node-F.Binary operator operator_span left right span) h = (h.2, h.3)
   node-of (Node-F.Unary operator operand span) h = h.1
-  node-of (Node-F.Post receiver suffixes span) h = (h.1, each-as (DoesSuffixStand tokens Stands) (OfSuffix Stands) suffix-of suffixes h.2)
-  node-of (Node-F.Text pieces span) h = each-as (DoesPieceStand tokens Stands) (OfPiece Stands) piece-of pieces h.1
+  node-of (Node-F.Post receiver suffixes span) h = (h.1, each-weaker (DoesSuffixStand tokens Stands) (OfSuffix Stands) suffix-of suffixes h.2)
+  node-of (Node-F.Text pieces span) h = each-weaker (DoesPieceStand tokens Stands) (OfPiece Stands) piece-of pieces h.1
   node-of (Node-F.Call name name_span arguments block span) h = (given-of arguments h.2, block-of block h.3)
   node-of (Node-F.Yield arguments span) h = given-of arguments h.1
   node-of (Node-F.Super arguments span) h = given-of arguments h.1
   node-of (Node-F.Array elements span) h = h.1
-  node-of (Node-F.Hash pairs span) h = each-as (DoesPairStand tokens Stands) (OfPair Stands) pair-of pairs h.1
+  node-of (Node-F.Hash pairs span) h = each-weaker (DoesPairStand tokens Stands) (OfPair Stands) pair-of pairs h.1
   node-of (Node-F.Parens body span) h = h.1
   node-of (Node-F.If test condition body arms otherwise span) h = (h.1, h.2, h.3, h.4)
   node-of (Node-F.While test condition body span) h = (h.1, h.2)
@@ -96,43 +88,8 @@ module _ (tokens : List Token) where
   node-of (Node-F.Class path superclass body span) h = h.3
   node-of (Node-F.Module path body span) h = h.2
   node-of (Node-F.Def visibility own name name_span parameters guarded span) h =
-      (each-as (DoesParameterStand tokens Stands) (OfParameter Stands) (λ p k. k.1) parameters h.2, guarded-of guarded h.3)
+      (each-weaker (DoesParameterStand tokens Stands) (OfParameter Stands) (λ p k. k.1) parameters h.2, guarded-of guarded h.3)
   node-of _ h = tt
-
-  -- ---- all parts that are read
-
-  abbrev IsVisitStanding : Visit Tree → Type 0
-  IsVisitStanding = OfVisit Stands
-
-  -- what is read in a row of parts, by the number of parts that are read there
-  rows-stand : (n : ℕ) (vs : List (Visit Tree)) → length (row_visits (λ x. x) below vs) < n → Each IsVisitStanding vs → Each IsVisitStanding (row_visits (λ x. x) below vs)
-  unfolding below_by_node
-  rows-stand zero vs less h = absurd (omega (arith, less))
-  rows-stand (suc n) [] less h = tt
-  rows-stand (suc n) (v ∷ vs) less h =
-      let inner = parts (λ x. x) v.reading v.scope (out-Node v.part.node) in
-      let e = below_is v.part v.reading v.scope in
-      let sum = length-append (row_visits (λ x. x) below vs) (v ∷ below v.part v.reading v.scope) in
-      each-append IsVisitStanding (row_visits (λ x. x) below vs) (v ∷ below v.part v.reading v.scope)
-      (rows-stand n vs (omega (arith, less, sum)) h.1) (
-        h.0,
-        subst (Each IsVisitStanding) (sym e)
-            (rows-stand n inner (omega (arith, less, sum, ap length e)) (parts-all Stands v.scope v.reading (out-Node v.part.node) (node-of (out-Node v.part.node) (opened tokens v.part h.0)))),
-      )
-
-  visits-stand : (t : Tree) → Stands t → Each IsVisitStanding (visits t)
-  visits-stand t h = rows-stand (suc (length (row_visits (λ x. x) below (visit reading.Plain [] t ∷ [])))) (visit reading.Plain [] t ∷ []) (omega arith) (h, tt)
-
-  own-stand : (v : Visit Tree) → IsVisitStanding v → Each IsVisitStanding (own_types v)
-  own-stand v h = by_test (is_type_part v.reading)
-    where
-      by_test : (b : Bool) → Each IsVisitStanding (if b then v ∷ [] else [])
-      by_test true = (h, tt)
-      by_test false = tt
-
-  types-stand : (t : Tree) → Stands t → Each IsVisitStanding (types_of t)
-  unfolding types_of
-  types-stand t h = each-flat IsVisitStanding IsVisitStanding own_types own-stand (visits t) (visits-stand t h)
 
   -- ---- their places
 
@@ -178,7 +135,7 @@ module _ (tokens : List Token) where
   unfolding span_of span_of_node
   tree-placed t h = node-placed (out-Node t.node) (opened tokens t h)
 
-  error-placed : (v : View) (p : Visit Tree) → IsVisitStanding p → Each (IsErrorPlaced tokens) (malformed_errors_of v p)
+  error-placed : (v : View) (p : Visit Tree) → OfVisit Stands p → Each (IsErrorPlaced tokens) (malformed_errors_of v p)
   error-placed v p h = by_test (is_malformed v p)
     where
       by_test : (b : Bool) → Each (IsErrorPlaced tokens) (if b then malformed_type p.part ∷ [] else [])
@@ -186,4 +143,4 @@ module _ (tokens : List Token) where
       by_test false = tt
 
 pub malformed-stand : MalformedTypesStandAtTokens
-malformed-stand tokens v t h = each-flat (IsVisitStanding tokens) (IsErrorPlaced tokens) (malformed_errors_of v) (error-placed tokens v) (types_of t) (types-stand tokens t h)
+malformed-stand tokens v t h = each-flat (OfVisit (StandsAt tokens)) (IsErrorPlaced tokens) (malformed_errors_of v) (error-placed tokens v) (types_of t) (types-kept (StandsAt tokens) (λ t h. node-of tokens (out-Node t.node) (opened tokens t h)) t h)

@@ -6,6 +6,7 @@ use Rattle.rb_tree.specs.declared.token.Token.{Token}
 use Rattle.rb_tree.specs.declared.syntax.Tree.{Tree}
 use Rattle.rb_rules.specs.Grammar.{Derives}
 use Rattle.rb_grammar.specs.Places.{Each, IsPlaced, StandsAt}
+use Rattle.rb_places_laws.specs.TreePlaces.{IsPlaceIn}
 use Rattle.srb_sig.specs.Views.{View}
 use Rattle.srb_references.specs.declared.reference.Reference.{Reference}
 use Rattle.srb_references.specs.MalformedTypes.{malformed_errors, types_of}
@@ -30,3 +31,13 @@ IsErrorPlaced tokens e = IsTreePlaced tokens e.span
 abbrev pub MalformedTypesStandAtTokens : Type 0
 MalformedTypesStandAtTokens =
     (tokens : List Token) (v : View) (t : Tree) → StandsAt tokens t → Each (IsErrorPlaced tokens) (malformed_errors v (types_of t))
+
+-- ---- trees
+
+-- Each reference of a tree stands at a place that the tree carries.
+abbrev pub ReferencesStandInTrees : Type 0
+ReferencesStandInTrees = (t : Tree) → Each (λ (r : Reference). IsPlaceIn t r.span) (references_of t)
+
+-- Whatever is known of the project's names, so does each error of a malformed type expression.
+abbrev pub MalformedTypesStandInTrees : Type 0
+MalformedTypesStandInTrees = (v : View) (t : Tree) → Each (λ (e : Diag). IsPlaceIn t e.span) (malformed_errors v (types_of t))
