@@ -1,1 +1,3 @@
+mod Examples
+mod Kept
 pub mod Places
