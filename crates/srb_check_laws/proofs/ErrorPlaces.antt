@@ -1,5 +1,5 @@
 -- Where the errors of a file stand.
-use Rattle.std.proofs.Common.{◌≡◌, ℕ, ◌≤◌, Bool, true, false, if◌then◌else◌, List, [], ◌∷◌, ◌++◌, length, refl, nat_lt, inl, inr, Result, Ok, Err, arith, filter}
+use Rattle.std.proofs.Common.{◌≡◌, ℕ, ◌≤◌, Bool, true, false, if◌then◌else◌, List, [], ◌∷◌, ◌++◌, length, refl, sym, subst, nat_lt, inl, inr, Some, Result, Ok, Err, arith, filter}
 use Rattle.std.specs.Str.{IsUtf8, chars, encode_utf8_all, is_utf8}
 use Rattle.std.proofs.lemmas.Str.{IsUtf8-from_is_utf8}
 use Rattle.srb_terms.specs.declared.diag.Diag.{Diag}
@@ -22,6 +22,7 @@ use Rattle.rb_decl.specs.Programs.{parsed}
 use Rattle.rb_grammar.specs.Places.{Each, IsPlaced}
 use Rattle.rb_grammar.proofs.Programs.{programs-derive}
 use Rattle.rb_grammar.proofs.Standing.{trees-stand-at-tokens}
+use Rattle.srb_check.specs.declared.file.FileRec.{FileRec}
 use Rattle.srb_check.specs.declared.reading.Reading.{Reading}
 use Rattle.srb_check.specs.declared.reading.Reading.TheVariants.{Program, Refused}
 use Rattle.srb_check.specs.Checks.{reading_errors, text_errors, errors_of}
@@ -29,23 +30,28 @@ use Rattle.srb_check.specs.Levels.{LARGEST_FILE, hides_all, needs_signatures}
 use Rattle.srb_check.specs.Symbols.{symbol_errors}
 use Rattle.srb_check.specs.Messages.{too_large, not_utf8}
 use Rattle.srb_check.specs.Types.{knowledge_of, type_errors}
-use Rattle.srb_check_laws.specs.Placed.{IsPlace, AreAtPlaces, ErrorsStandAtTokens, IsPlaceOfNode, TypeErrorsStandAtNodes}
+use Rattle.srb_check_laws.specs.Placed.{IsPlace, AreAtPlaces, ErrorsStandAtTokens, IsPlaceOfNode, TypeErrorsStandAtNodes, ErrorsStandInTrees, FilesErrInTrees, NodesStandInTrees}
 use Rattle.srb_check.specs.Readings.{lex_error, parse_error, parsed_reading, lexed_reading, read}
+use Rattle.srb_check.specs.Records.{hidden, loaded, read_record, text_record, unread}
 use Rattle.srb_conflicts.specs.Conflicts.{conflict_errors}
 use Rattle.srb_declarations.specs.Declarations.{declarations_of}
 use Rattle.srb_declarations_laws.specs.Placed.{place_of}
+use Rattle.srb_declarations_laws.proofs.Places.{declarations-have}
 use Rattle.srb_declarations_laws.proofs.Programs.{programs-declare}
 use Rattle.srb_references.specs.declared.reference.Reference.{Reference}
 use Rattle.srb_references.specs.MalformedTypes.{malformed_errors, types_of}
 use Rattle.srb_references.specs.References.{reference_errors, references_of}
 use Rattle.srb_references_laws.proofs.Programs.{programs-refer}
+use Rattle.srb_references_laws.proofs.Trees.{malformed-have, references-have}
 use Rattle.srb_references_laws.proofs.Types.{malformed-stand}
 use Rattle.srb_sig.specs.Views.{view_of}
 use Rattle.srb_signatures.specs.Errors.{signature_errors}
-use Rattle.srb_signatures_laws.proofs.Places.{signatures-stand}
+use Rattle.srb_signatures_laws.proofs.Places.{signatures-have, signatures-stand}
 use Rattle.rb_places_laws.specs.ErrorPlaces.{HasErrorPlaces}
 use Rattle.rb_places_laws.specs.TokenPlaces.{IsTreePlaced, IsPlaceOfError}
 use Rattle.rb_places_laws.proofs.Programs.{programs_have_error_places}
+use Rattle.rb_places_laws.proofs.TreePlaces.{each-is-place, judged-places}
+use Rattle.rb_places_laws.specs.TreePlaces.{IsPlaceIn}
 use Rattle.rb_rewrite.specs.Rewriting.{attrs_of}
 use Rattle.rb_rewrite_laws.proofs.Rewriting.{rewritten-has}
 use Rattle.srb_judgement.specs.Errors.{is_shown}
@@ -119,6 +125,54 @@ type-errors-at-nodes facts level tree = each (type_errors facts level tree) (λ 
         → Each (λ (e : Diag). IsPlaceOfNode tree e.span) errors
     each [] h = tt
     each (e ∷ errors) h = (λ test has. (h test has).0, each errors (λ test has. (h test has).1))
+
+pub nodes-in-trees : NodesStandInTrees
+nodes-in-trees tree span is test has = is test (judged-places (λ place. test place ≡ true) tree has)
+
+-- ---- each error
+
+pub errors-in-trees : ErrorsStandInTrees
+errors-in-trees facts level tree = each-is-place (λ (e : Diag). e.span) tree (reading_errors facts level (Program tree)) (λ test has.
+    let P : Span → Type 0 = λ place. test place ≡ true in
+    let symbols = symbols-at P facts level tree (declarations-have P tree has) (references-have P tree has) (malformed-have P (view_of facts) tree has)
+    (signatures-have P (needs_signatures level) tree has) in
+    let types = types-at P facts level tree (λ k. project-errors-have P k (attrs_of tree) (rewritten-has P tree (judged-places P tree has))) in
+    arranged-at P (symbol_errors facts level tree ++ type_errors facts level tree) (errors-append P (symbol_errors facts level tree) (type_errors facts level tree) symbols types))
+
+module _ (facts : List Fact) (bytes : List ℕ) (tree : Tree) where
+  abbrev its_text : List ℕ
+  its_text = chars bytes
+
+  abbrev its_level : Level
+  its_level = level_of_text (chars bytes)
+
+  -- the record keeps the tree
+  abbrev Keeps : FileRec → Type 0
+  Keeps file = file.tree ≡ Some tree
+
+  abbrev Are : List Diag → Type 0
+  Are errors = Each (λ (e : Diag). IsPlaceIn tree e.span) errors
+
+  reading-in-tree : (reading : Reading) → Keeps (read_record its_text its_level reading) → Are (reading_errors facts its_level reading)
+  reading-in-tree (Refused error) e = absurd (cc)
+  reading-in-tree (Program t) e = let same : t ≡ tree = cc in subst (λ (u : Tree). Are (reading_errors facts its_level (Program u))) (sym same) (errors-in-trees facts its_level tree)
+
+  level-in-tree : (hides : Bool) → Keeps (if hides then hidden its_text its_level else read_record its_text its_level (read its_text)) → Are (if hides then [] else reading_errors facts its_level (read its_text))
+  level-in-tree true e = tt
+  level-in-tree false e = reading-in-tree (read its_text) e
+
+  form-in-tree : (form : Bool) → Keeps (if form then text_record its_text its_level else unread not_utf8) → Are (if form then text_errors facts its_text else not_utf8 ∷ [])
+  form-in-tree true e = level-in-tree (hides_all its_level) e
+  form-in-tree false e = absurd (cc)
+
+  size-in-tree : (large : Bool) → Keeps (if large then unread too_large else (if is_utf8 bytes then text_record its_text its_level else unread not_utf8)) →
+      Are (if large then too_large ∷ [] else (if is_utf8 bytes then text_errors facts its_text else not_utf8 ∷ []))
+  size-in-tree true e = absurd (cc)
+  size-in-tree false e = form-in-tree (is_utf8 bytes) e
+
+pub files-err-in-trees : FilesErrInTrees
+unfolding errors_of loaded
+files-err-in-trees facts bytes tree e = size-in-tree facts bytes tree (nat_lt LARGEST_FILE (length bytes)) e
 
 -- ---- what a text is read to
 

@@ -21,14 +21,18 @@ use Rattle.srb_check_laws.proofs.Loaded.{loaded-is-kept}
 kept-error : (bytes : List ℕ) (file : FileRec) → IsKept bytes file → (loaded bytes).error ≡ file.error
 kept-error bytes file kept = ap (λ (f : FileRec). f.error) ((loaded-is-kept bytes file).1 kept)
 
--- the error of a text at the level `false`
-text-error : (bytes text : List ℕ) (v : Verdict) → length bytes ≤ 1048576 → is_utf8 bytes ≡ true → chars bytes ≡ text → level_of_text text ≡ level.False → Is text v
-    → (loaded bytes).error ≡ error_of v
-text-error bytes text v fits form spelled low is =
+-- the record of a text at the level `false`
+pub text-kept : (bytes text : List ℕ) (v : Verdict) → length bytes ≤ 1048576 → is_utf8 bytes ≡ true → chars bytes ≡ text → level_of_text text ≡ level.False → Is text v
+    → loaded bytes ≡ judged (chars bytes) level.False v
+text-kept bytes text v fits form spelled low is =
     let utf8 : IsUtf8 bytes = IsUtf8-from_is_utf8 bytes form in
     let asks : Asks (chars bytes) level.False = subst (λ t. Asks t level.False) (sym spelled) ((level-told text level.False).0 low) in
-    kept-error bytes (judged (chars bytes) level.False v)
+    (loaded-is-kept bytes (judged (chars bytes) level.False v)).1
     (IsKept.Judged level.False v (fits, utf8) asks (λ e. absurd (cc)) (subst (λ t. Is t v) (sym spelled) is))
+
+text-error : (bytes text : List ℕ) (v : Verdict) → length bytes ≤ 1048576 → is_utf8 bytes ≡ true → chars bytes ≡ text → level_of_text text ≡ level.False → Is text v
+    → (loaded bytes).error ≡ error_of v
+text-error bytes text v fits form spelled low is = ap (λ (f : FileRec). f.error) (text-kept bytes text v fits form spelled low is)
 
 pub bracket-is-a-syntax-error : BracketIsASyntaxError
 unfolding chars is_utf8 encode levels.level_of levels.heading_of levels.level_in

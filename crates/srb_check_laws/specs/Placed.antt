@@ -1,5 +1,5 @@
 -- The places at which errors stand.
-use Rattle.std.specs.Prelude.{◌≡◌, ℕ, ◌≤◌, ◌⊎◌, Bool, true, List, [], ◌∷◌, chars}
+use Rattle.std.specs.Prelude.{◌≡◌, ℕ, ◌≤◌, ◌⊎◌, Bool, true, List, [], ◌∷◌, chars, Some}
 use Rattle.std.specs.Str.{IsUtf8}
 use Rattle.srb_terms.specs.declared.diag.Diag.{Diag}
 use Rattle.srb_terms.specs.declared.fact.Fact.{Fact}
@@ -12,7 +12,9 @@ use Rattle.rb_rules.specs.Grammar.{Derives}
 use Rattle.rb_grammar.specs.Places.{Each}
 use Rattle.rb_places_laws.specs.ErrorPlaces.{HasErrorPlaces}
 use Rattle.rb_places_laws.specs.TokenPlaces.{IsPlaceOfError}
-use Rattle.srb_check.specs.Checks.{reading_errors}
+use Rattle.rb_places_laws.specs.TreePlaces.{IsPlaceIn}
+use Rattle.srb_check.specs.Checks.{errors_of, reading_errors}
+use Rattle.srb_check.specs.Records.{loaded}
 use Rattle.srb_check.specs.Types.{type_errors}
 use Rattle.srb_check.specs.declared.reading.Reading.TheVariants.{Program}
 
@@ -41,3 +43,20 @@ IsPlaceOfNode tree span = (test : Span → Bool) → HasErrorPlaces (λ place. t
 -- Each error of types in a program stands at such a place.
 abbrev pub TypeErrorsStandAtNodes : Type 0
 TypeErrorsStandAtNodes = (facts : List Fact) (level : Level) (tree : Tree) → Each (λ (error : Diag). IsPlaceOfNode tree error.span) (type_errors facts level tree)
+
+-- ---- each error of a tree
+
+-- Each error of a program, whatever the facts of its project are, stands at a place that its tree carries: at one of those, or at a declared
+-- path, at the names in front of its last one, at a superclass, or at an argument with its label or its `&` (`HasPlaces` says which they are).
+abbrev pub ErrorsStandInTrees : Type 0
+ErrorsStandInTrees =
+    (facts : List Fact) (level : Level) (tree : Tree) → Each (λ (error : Diag). IsPlaceIn tree error.span) (reading_errors facts level (Program tree))
+
+-- So does each error of a file of which a tree is kept.
+abbrev pub FilesErrInTrees : Type 0
+FilesErrInTrees =
+    (facts : List Fact) (bytes : List ℕ) (tree : Tree) → (loaded bytes).tree ≡ Some tree → Each (λ (error : Diag). IsPlaceIn tree error.span) (errors_of facts bytes)
+
+-- A place of errors of types is a place that the tree carries.
+abbrev pub NodesStandInTrees : Type 0
+NodesStandInTrees = (tree : Tree) (span : Span) → IsPlaceOfNode tree span → IsPlaceIn tree span

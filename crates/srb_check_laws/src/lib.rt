@@ -7,8 +7,8 @@ ghost use Rattle.srb_terms.specs.declared.fact.Fact.{Fact};
 ghost use Rattle.srb_check.specs.Checks.{errors_of};
 ghost use Rattle.srb_check_laws.specs.Loaded.{LoadedIsKept};
 ghost use Rattle.srb_check_laws.specs.LoadedExamples.{BracketIsASyntaxError, ByteIsNoText, GlobalIsOutsideTheProfile, IgnoredHasNone, LastIsDeeper};
-ghost use Rattle.srb_check_laws.specs.Placed.{AreAtPlaces, ErrorsStandAtTokens, TypeErrorsStandAtNodes};
-ghost use Rattle.srb_check_laws.specs.PlacedExamples.{OperatorIsAPlace};
+ghost use Rattle.srb_check_laws.specs.Placed.{AreAtPlaces, ErrorsStandAtTokens, ErrorsStandInTrees, FilesErrInTrees, NodesStandInTrees, TypeErrorsStandAtNodes};
+ghost use Rattle.srb_check_laws.specs.PlacedExamples.{OperatorIsAPlace, ShortErrsInItsTree};
 ghost use Rattle.srb_check_laws.specs.Summaries.{SummariesGiveErrors, SummariesGiveFacts, SummariesGiveTables};
 
 /// What `load` keeps of a file is the one record that the file's bytes tell: its size is tested first, then whether it is UTF-8, then which
@@ -33,12 +33,20 @@ pub fn errors_are_at_places()
     ensures { (facts : List Fact) (bytes : List ℕ) → AreAtPlaces bytes (errors_of facts bytes) }
 {}
 
-/// Under any facts each error of a program stands at its tokens, and each error of types at a place that a node of its tree carries, as that of
-/// an operator is.
+/// Under any facts each error of a program stands at its tokens.
 pub fn errors_are_at_tokens()
-    ensures tokens { ErrorsStandAtTokens }
-    ensures nodes { TypeErrorsStandAtNodes }
+    ensures { ErrorsStandAtTokens }
+{}
+
+/// Under any facts each error of a file that has a tree, and of a program, stands at a place that its tree carries, and each error of types at a
+/// place of a node, a name or the like in it, as that of an operator is. The latter are among the former.
+pub fn errors_are_at_nodes()
+    ensures files { FilesErrInTrees }
+    ensures programs { ErrorsStandInTrees }
+    ensures types { TypeErrorsStandAtNodes }
+    ensures among { NodesStandInTrees }
     ensures operator { OperatorIsAPlace }
+    ensures short { ShortErrsInItsTree }
 {}
 
 /// Projects whose files have equal summaries, one after the other, have equal facts. So a symbol table that stands for the facts of one stands
