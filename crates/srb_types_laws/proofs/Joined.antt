@@ -72,9 +72,6 @@ any-left {P} f out (x ∷ xs) drop h = either
 -- ---- types and their parts
 
 module _ (r : Bool) (L : Lineage) (s : Shape) where
-  abbrev pub Has : Ty → Bool
-  Has t = belongs r L t s
-
   pub has-parts : (t : Ty) → belongs r L t s ≡ list_any (λ p. belongs r L p s) (parts_of t)
   unfolding parts_of
   has-parts t = go (out-Ty t) refl

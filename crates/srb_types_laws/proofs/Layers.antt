@@ -76,6 +76,9 @@ typed-same : (x : Ty-F Ty) → is_typed_at (λ (b : Bool). b) (map-Ty Ty Bool is
 typed-same (Ty-F.Any parts) = all-mapped (λ (b : Bool). b) is_typed parts
 typed-same x = refl
 
-pub typed_is : (t : Ty) → is_typed t ≡ is_typed_at is_typed (out-Ty t)
+pub typed_roll : (x : Ty-F Ty) → is_typed (roll-Ty x) ≡ is_typed_at is_typed x
 unfolding is_typed
-typed_is t = ap is_typed (sym (roll-out-Ty t)) ∙ fold-roll-Ty Bool (λ t. is_typed_at (λ b. b) t) (out-Ty t) ∙ typed-same (out-Ty t)
+typed_roll x = fold-roll-Ty Bool (λ t. is_typed_at (λ b. b) t) x ∙ typed-same x
+
+pub typed_is : (t : Ty) → is_typed t ≡ is_typed_at is_typed (out-Ty t)
+typed_is t = ap is_typed (sym (roll-out-Ty t)) ∙ typed_roll (out-Ty t)

@@ -17,3 +17,5 @@ pub mod Comparable
 pub mod Meetings
 pub mod Results
 pub mod Cutting
+pub mod Lattice
+pub mod Table

@@ -26,7 +26,7 @@ use Rattle.srb_types_laws.proofs.Comparable.{both_hold, inner-has, plain-has, is
 
 -- ---- types without `T.untyped`
 
-typed-no-untyped : (t : Ty) → IsTrue (is_typed t) → is_untyped t ≡ false
+pub typed-no-untyped : (t : Ty) → IsTrue (is_typed t) → is_untyped t ≡ false
 typed-no-untyped t h = go (out-Ty t) (sym (typed_is t) ∙ h)
   where
     go : (x : Ty-F Ty) → IsTrue (is_typed_at is_typed x) → is_untyped_at x ≡ false
@@ -39,7 +39,7 @@ typed-no-untyped t h = go (out-Ty t) (sym (typed_is t) ∙ h)
     go (Ty-F.Any ps) k = refl
     go (Ty-F.All ms) k = refl
 
-parts-typed : (t : Ty) → IsTrue (is_typed t) → IsTrue (list_all is_typed (parts_of t))
+pub parts-typed : (t : Ty) → IsTrue (is_typed t) → IsTrue (list_all is_typed (parts_of t))
 unfolding parts_of
 parts-typed t h = go (out-Ty t) refl
   where

@@ -49,7 +49,7 @@ ordered-names (c ∷ cs) = let
     ∙ ap (λ (f : List ℕ → Bool). list_all f cs) (λ i d. not (is_before (class-shown d i) (class-shown c i))) in let
     rest = ordered-names cs in λ i. e i && rest i
 
-class-part : (c : List ℕ) → IsTrue (is_part (ty.Class c))
+pub class-part : (c : List ℕ) → IsTrue (is_part (ty.Class c))
 class-part c = ap is_part_at (ap out-Ty (sym (rolls-Class c)) ∙ out-roll-Ty (Ty-F.Class c))
 
 all-part : (ms : List Ty) → IsTrue (is_part (ty.All ms))

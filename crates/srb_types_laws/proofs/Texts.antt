@@ -69,9 +69,6 @@ false-true : {A : Type 0} → false ≡ true → A
 false-true h = absurd (not-both false refl h)
 
 module _ (L : Lineage) (names : HasPlainNames L) where
-  abbrev Of : Ty-F Ty → List ℕ
-  Of x = shown_at (map-Ty Ty (List ℕ) shown x)
-
   -- that of a part isn't that of a union of several
   no-union-at : (x : Ty-F Ty) → IsTrue (is_part_at x) → IsLayer L x → IsNoUnion (shown_at (map-Ty Ty (List ℕ) shown x))
   unfolding fourth

@@ -32,9 +32,6 @@ among-has u (t ∷ ts) (inr h) = go (bytes_eq t u) (among-has u ts h)
 
 -- ---- texts that are in order already
 
-abbrev itself : List ℕ → List ℕ
-itself u = u
-
 -- one that stands before none of a list is placed at its end
 placed-last : (t : List ℕ) (xs : List (List ℕ)) → IsTrue (list_all (λ x. not (is_before t x)) xs) → placed (λ u. u) t xs ≡ xs ++ (t ∷ [])
 placed-last t [] h = refl
@@ -86,9 +83,6 @@ differ t u f e = not-both (bytes_eq t u) (ap not f) (ap (λ x. bytes_eq t x) (sy
 -- ---- with `T::Boolean`
 
 module _ (ts : List (List ℕ)) where
-  both : Bool
-  both = has_name TRUE ts && has_name FALSE ts
-
   -- a text that is shown by itself
   pub boolean-keeps : (u : List ℕ) → Among u ts → bytes_eq u TRUE ≡ false → bytes_eq u FALSE ≡ false → Among u (with_boolean ts)
   boolean-keeps u a t f = go (has_name TRUE ts && has_name FALSE ts)

@@ -57,6 +57,13 @@ UnionsDoNotDependOnOrder =
     (L : Lineage) (t u v : Ty) → IsLineage L → HasNoCircles L → TextsTell L → IsNormal L t → IsNormal L u → IsNormal L v
     → (any_of L t u ≡ any_of L u t) × (any_of L (any_of L t u) v ≡ any_of L t (any_of L u v)) × (any_of L t t ≡ t)
 
+-- Nor does `T.all` of types without `T.untyped` depend on their order; it adds nothing to a type where both are that type, and each of
+-- `T.any` and `T.all` takes the other one back.
+abbrev pub IntersectionsDoNotDependOnOrder : Type 0
+IntersectionsDoNotDependOnOrder =
+    (L : Lineage) (t u : Ty) → IsLineage L → HasNoCircles L → TextsTell L → IsNormal L t → IsNormal L u → IsTrue (is_typed t) → IsTrue (is_typed u)
+    → (all_of L t u ≡ all_of L u t) × (all_of L t t ≡ t) × (any_of L t (all_of L t u) ≡ t) × (all_of L t (any_of L t u) ≡ t)
+
 -- ---- shown texts
 
 -- two types in normal form that are shown alike are one, where the names of classes and modules are plain

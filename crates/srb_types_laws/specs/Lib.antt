@@ -1,2 +1,3 @@
 pub mod NormalForms
 pub mod Laws
+pub mod Examples

@@ -1,7 +1,8 @@
 //! What the operations on types mean: which shapes their answers have, and that these are in normal form.
 #![tactic(auto)]
 
-ghost use Rattle.srb_types_laws.specs.Laws.{ArraysAndHashesAreNormal, ArraysAndHashesKeepShapes, BooleanIsShownAlike, IntersectionsAreNormal, IntersectionsHaveTheShapesOfBoth, MeetsHaveTheShapesOfBoth, NormalFormsAreUnique, OtherShapesAreLeft, PlainNamesTellParts, ShownTextsTellTypes, SubtypesAreLeftOut, UnionsAreNormal, UnionsDoNotDependOnOrder, UnionsHaveTheShapesOfBoth, WhatIsLeftIsNormal};
+ghost use Rattle.srb_types_laws.specs.Examples.{TableIsAsAsked, TextsAreTested, UnionIsNormal};
+ghost use Rattle.srb_types_laws.specs.Laws.{ArraysAndHashesAreNormal, ArraysAndHashesKeepShapes, BooleanIsShownAlike, IntersectionsAreNormal, IntersectionsDoNotDependOnOrder, IntersectionsHaveTheShapesOfBoth, MeetsHaveTheShapesOfBoth, NormalFormsAreUnique, OtherShapesAreLeft, PlainNamesTellParts, ShownTextsTellTypes, SubtypesAreLeftOut, UnionsAreNormal, UnionsDoNotDependOnOrder, UnionsHaveTheShapesOfBoth, WhatIsLeftIsNormal};
 
 /// `T.any` of two types in normal form is in normal form, and has exactly the shapes of both.
 pub fn unions_join_shapes()
@@ -18,10 +19,11 @@ pub fn subtypes_are_left_out()
 {}
 
 /// Where no two classes or modules inherit from each other and no two parts are shown alike, two types in normal form with the same shapes
-/// are one, and `T.any` doesn't depend on the order of types.
+/// are one, and neither `T.any` nor `T.all` depends on the order of types.
 pub fn normal_forms_are_unique()
     ensures unique { NormalFormsAreUnique }
     ensures unions { UnionsDoNotDependOnOrder }
+    ensures intersections { IntersectionsDoNotDependOnOrder }
 {}
 
 /// Where the names of classes and modules are plain, types in normal form are told apart by their texts. A class `T::Boolean` is the
@@ -44,4 +46,11 @@ pub fn intersections_meet_shapes()
 pub fn arrays_and_hashes_keep_shapes()
     ensures normal { ArraysAndHashesAreNormal }
     ensures shapes { ArraysAndHashesKeepShapes }
+{}
+
+/// Examples: a table of three classes of which the laws can be used, the union of two of them, and some texts.
+pub fn examples_are_in_normal_form()
+    ensures table { TableIsAsAsked }
+    ensures union { UnionIsNormal }
+    ensures texts { TextsAreTested }
 {}
