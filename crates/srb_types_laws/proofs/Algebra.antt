@@ -28,7 +28,7 @@ or-itself true = refl
 or-itself false = refl
 
 module _ (L : Lineage) (laws : IsLineage L) where
-  included : (t u : Ty) → IsTrue (fits L t) → ((s : Shape) → IsShape true L s → IsTrue (belongs true L t s) → IsTrue (belongs true L u s)) → IsTrue (lies_in L t u)
+  pub included : (t u : Ty) → IsTrue (fits L t) → ((s : Shape) → IsShape true L s → IsTrue (belongs true L t s) → IsTrue (belongs true L u s)) → IsTrue (lies_in L t u)
   included t u fit h = either (λ w. w)
       (λ f. let c = complete true L laws t fit u f in absurd (c.outside (h c.shape c.valid c.inside)))
       (by-test (lies_in L t u))

@@ -17,5 +17,6 @@ pub mod Comparable
 pub mod Meetings
 pub mod Results
 pub mod Cutting
+pub mod Inhabited
 pub mod Lattice
 pub mod Table

@@ -5,10 +5,24 @@ use Rattle.srb_terms.specs.declared.ty.Ty.{Ty}
 use Rattle.srb_terms.specs.declared.ty.Ty.TheVariants as ty
 use Rattle.srb_shapes.specs.Lineages.{Lineage, IsLineage}
 use Rattle.srb_shapes.specs.Parts.{parts_of}
-use Rattle.srb_shapes.specs.Shapes.{Shape, IsShape, belongs, IsSubtype}
+use Rattle.srb_shapes.specs.Shapes.{Shape, IsShape, belongs, IsSubtype, LiesIn}
 use Rattle.srb_types.specs.Normal.{all_of, any_of, array_of, hash_of, is_shallow, is_untyped, meet_of, one_untyped, without_of}
 use Rattle.srb_types.specs.Shown.{BOOLEAN, FALSE, TRUE, shown}
 use Rattle.srb_types_laws.specs.NormalForms.{Among, HasNoCircles, HasPlainNames, IsNormal, TextsTell, is_typed}
+
+-- ---- parts
+
+-- a shape belongs to each part of a type in normal form that isn't `T.untyped`, where `T.untyped` has none
+abbrev pub PartsHaveShapes : Type 0
+PartsHaveShapes =
+    (L : Lineage) (t p : Ty) → IsLineage L → IsNormal L t → is_untyped t ≡ false → Among p (parts_of t)
+    → (s : Shape) × IsShape false L s × IsTrue (belongs false L p s)
+
+-- and none of these parts lies in another, by its shapes
+abbrev pub PartsLieInNoOther : Type 0
+PartsLieInNoOther =
+    (L : Lineage) (t p q : Ty) → IsLineage L → IsNormal L t → is_untyped t ≡ false → Among p (parts_of t) → Among q (parts_of t)
+    → LiesIn L p q → p ≡ q
 
 -- ---- unions
 

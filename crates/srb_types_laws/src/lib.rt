@@ -2,7 +2,13 @@
 #![tactic(auto)]
 
 ghost use Rattle.srb_types_laws.specs.Examples.{TableIsAsAsked, TextsAreTested, UnionIsNormal};
-ghost use Rattle.srb_types_laws.specs.Laws.{ArraysAndHashesAreNormal, ArraysAndHashesKeepShapes, BooleanIsShownAlike, IntersectionsAreNormal, IntersectionsDoNotDependOnOrder, IntersectionsHaveTheShapesOfBoth, MeetsHaveTheShapesOfBoth, NormalFormsAreUnique, OtherShapesAreLeft, PlainNamesTellParts, ShownTextsTellTypes, SubtypesAreLeftOut, UnionsAreNormal, UnionsDoNotDependOnOrder, UnionsHaveTheShapesOfBoth, WhatIsLeftIsNormal};
+ghost use Rattle.srb_types_laws.specs.Laws.{ArraysAndHashesAreNormal, ArraysAndHashesKeepShapes, BooleanIsShownAlike, IntersectionsAreNormal, IntersectionsDoNotDependOnOrder, IntersectionsHaveTheShapesOfBoth, MeetsHaveTheShapesOfBoth, NormalFormsAreUnique, OtherShapesAreLeft, PartsHaveShapes, PartsLieInNoOther, PlainNamesTellParts, ShownTextsTellTypes, SubtypesAreLeftOut, UnionsAreNormal, UnionsDoNotDependOnOrder, UnionsHaveTheShapesOfBoth, WhatIsLeftIsNormal};
+
+/// Each part of a type in normal form has a shape, and none lies in another.
+pub fn parts_are_apart()
+    ensures shapes { PartsHaveShapes }
+    ensures apart { PartsLieInNoOther }
+{}
 
 /// `T.any` of two types in normal form is in normal form, and has exactly the shapes of both.
 pub fn unions_join_shapes()
