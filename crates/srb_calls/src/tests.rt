@@ -203,28 +203,28 @@ fn each_part_answers_by_itself(rt: HostRuntime) -> Result<(), NoMemory> {
 
 // A table in which `m`, a method of a class with this name, takes one argument of any type and answers this.
 fn world_with(alloc: Global, owner: &str, answer: Ty) -> Result<World, NoMemory> {
+    let params = any_param(alloc)?;
+    let mut world = world_of(alloc, owner, "m", params, answer)?;
+    for c in MORE_CLASSES {
+        add(alloc, &mut world, c)?;
+    }
+    Ok(world)
+}
+
+const MORE_CLASSES: &[&str] = &["Array", "Hash", "Float", "NilClass", "Numeric"];
+
+fn any_param(alloc: Global) -> Result<Items<Param>, NoMemory> {
     let mut params = Items::new(alloc);
     params.push(Param {
         name: name(alloc, "a")?,
         kind: ParamKind::Required,
         ty: Ty::Untyped,
     })?;
-    let mut world = world_of(alloc, owner, "m", params, answer)?;
-    for c in ["Array", "Hash", "Float", "NilClass", "Numeric"] {
-        add(alloc, &mut world, c)?;
-    }
-    Ok(world)
+    Ok(params)
 }
 
 fn array(alloc: Global, element: Ty) -> Result<Ty, NoMemory> {
     Ok(Ty::Arr(Boxed::new(alloc, element)?))
-}
-
-fn nilable(alloc: Global, text: &str) -> Result<Ty, NoMemory> {
-    let mut parts = Items::new(alloc);
-    parts.push(class(alloc, text)?)?;
-    parts.push(class(alloc, "NilClass")?)?;
-    Ok(Ty::Any(Boxed::new(alloc, parts)?))
 }
 
 fn hash(alloc: Global, key: Ty, value: Ty) -> Result<Ty, NoMemory> {
@@ -232,53 +232,96 @@ fn hash(alloc: Global, key: Ty, value: Ty) -> Result<Ty, NoMemory> {
     Ok(Ty::Hsh(key, Boxed::new(alloc, value)?))
 }
 
-// A receiver of each kind.
+fn nilable_integer(alloc: Global) -> Result<Ty, NoMemory> {
+    let mut parts = Items::new(alloc);
+    parts.push(class(alloc, "Integer")?)?;
+    parts.push(class(alloc, "NilClass")?)?;
+    Ok(Ty::Any(Boxed::new(alloc, parts)?))
+}
+
+// A receiver of the class: an array of `T.nilable(Integer)`, a hash from `String` to `Integer`, or an instance.
 fn receiver(alloc: Global, owner: &str) -> Result<Ty, NoMemory> {
-    if owner == "Array" {
-        array(alloc, nilable(alloc, "Integer")?)
-    } else if owner == "Hash" {
-        hash(alloc, class(alloc, "String")?, class(alloc, "Integer")?)
-    } else {
-        class(alloc, owner)
+    match owner {
+        "Array" => array(alloc, nilable_integer(alloc)?),
+        "Hash" => hash(alloc, class(alloc, "String")?, class(alloc, "Integer")?),
+        _ => class(alloc, owner),
     }
 }
 
+// What a call of `m` with one argument is told, in such a table.
+fn told_by(alloc: Global, world: &World, owner: &str, given: &Args) -> Result<String, NoMemory> {
+    let on = recv(alloc, receiver(alloc, owner)?, "m")?;
+    told(alloc, world, &on, given)
+}
+
+// What it is told where the method answers this, and the block, if there is one, this.
+fn told_of_answer(
+    alloc: Global,
+    owner: &str,
+    answer: Ty,
+    argument: &str,
+    block: Option<GivenBlock>,
+) -> Result<String, NoMemory> {
+    let world = world_with(alloc, owner, answer)?;
+    let mut given = given(alloc, 1, argument, "", "")?;
+    given.block = block;
+    told_by(alloc, &world, owner, &given)
+}
+
+fn told_of_letter(
+    alloc: Global,
+    owner: &str,
+    letter: &str,
+    argument: &str,
+) -> Result<String, NoMemory> {
+    told_of_answer(alloc, owner, class(alloc, letter)?, argument, None)
+}
+
+const LETTERS: &[(&str, &str, &str, &str)] = &[
+    ("Array", "%E", "String", "T.nilable(Integer)"),
+    ("Array", "%C", "String", "Integer"),
+    ("Array", "%self", "String", "T::Array[T.nilable(Integer)]"),
+    ("Hash", "%K", "String", "String"),
+    ("Hash", "%V", "String", "Integer"),
+    ("Integer", "%N", "Integer", "Integer"),
+    ("Integer", "%N", "Float", "Float"),
+    ("Integer", "%N", "String", "Numeric"),
+    ("Float", "%N", "Integer", "Integer"),
+    ("String", "%self", "String", "String"),
+    ("String", "%B", "String", "T.untyped"),
+    ("String", "Float", "String", "Float"),
+];
+
 #[test]
 fn letters_stand_for_types(rt: HostRuntime) -> Result<(), NoMemory> {
-    let alloc = rt.alloc();
-    for (owner, letter, argument, want) in [
-        ("Array", "%E", "String", "T.nilable(Integer)"),
-        ("Array", "%C", "String", "Integer"),
-        ("Array", "%self", "String", "T::Array[T.nilable(Integer)]"),
-        ("Hash", "%K", "String", "String"),
-        ("Hash", "%V", "String", "Integer"),
-        ("Integer", "%N", "Integer", "Integer"),
-        ("Integer", "%N", "Float", "Float"),
-        ("Integer", "%N", "String", "Numeric"),
-        ("Float", "%N", "Integer", "Integer"),
-        ("String", "%self", "String", "String"),
-        ("String", "%B", "String", "T.untyped"),
-        ("String", "Float", "String", "Float"),
-    ] {
-        let world = world_with(alloc, owner, class(alloc, letter)?)?;
-        let on = recv(alloc, receiver(alloc, owner)?, "m")?;
-        let text = told(alloc, &world, &on, &given(alloc, 1, argument, "", "")?)?;
-        assert_eq!(rt; text.as_str(), want);
+    for (owner, letter, argument, want) in LETTERS {
+        let text = told_of_letter(rt.alloc(), owner, letter, argument)?;
+        assert_eq!(rt; text.as_str(), *want);
     }
     Ok(())
+}
+
+// `T::Hash[K, T::Array[V]]`
+fn inside(alloc: Global) -> Result<Ty, NoMemory> {
+    hash(
+        alloc,
+        class(alloc, "%K")?,
+        array(alloc, class(alloc, "%V")?)?,
+    )
+}
+
+// A block that answers a `String`.
+fn text_block(alloc: Global) -> Result<GivenBlock, NoMemory> {
+    Ok(GivenBlock {
+        names: 1,
+        ty: class(alloc, "String")?,
+    })
 }
 
 #[test]
 fn letters_stand_for_types_inside_others(rt: HostRuntime) -> Result<(), NoMemory> {
     let alloc = rt.alloc();
-    let answer = hash(
-        alloc,
-        class(alloc, "%K")?,
-        array(alloc, class(alloc, "%V")?)?,
-    )?;
-    let world = world_with(alloc, "Hash", answer)?;
-    let on = recv(alloc, receiver(alloc, "Hash")?, "m")?;
-    let text = told(alloc, &world, &on, &given(alloc, 1, "Float", "", "")?)?;
+    let text = told_of_answer(alloc, "Hash", inside(alloc)?, "Float", None)?;
     assert_eq!(rt; text.as_str(), "T::Hash[String, T::Array[Integer]]");
     Ok(())
 }
@@ -286,24 +329,33 @@ fn letters_stand_for_types_inside_others(rt: HostRuntime) -> Result<(), NoMemory
 #[test]
 fn a_block_answers_for_its_letter(rt: HostRuntime) -> Result<(), NoMemory> {
     let alloc = rt.alloc();
-    let world = world_with(alloc, "Array", array(alloc, class(alloc, "%B")?)?)?;
-    let on = recv(alloc, receiver(alloc, "Array")?, "m")?;
-    let mut given = given(alloc, 1, "Float", "", "")?;
-    given.block = Some(GivenBlock {
-        names: 1,
-        ty: class(alloc, "String")?,
-    });
-    let text = told(alloc, &world, &on, &given)?;
+    let answer = array(alloc, class(alloc, "%B")?)?;
+    let text = told_of_answer(alloc, "Array", answer, "Float", Some(text_block(alloc)?))?;
     assert_eq!(rt; text.as_str(), "T::Array[String]");
     Ok(())
 }
 
-// What a block with so many names is given by a method that gives an element and an `Integer`, as it is shown.
-fn given_to_block(alloc: Global, names: u32) -> Result<String, NoMemory> {
+// The texts of types, each ended by `;`.
+fn shown_types(alloc: Global, types: &[Ty]) -> Result<String, NoMemory> {
+    let mut text = String::new(alloc);
+    for ty in types {
+        text.push_str(show(alloc, ty)?.as_str())?;
+        text.push_str(";")?;
+    }
+    Ok(text)
+}
+
+// A table in which `m` of an array gives an element and an `Integer` to its block.
+fn giving_world(alloc: Global) -> Result<World, NoMemory> {
     let mut params = Items::new(alloc);
     push_param(alloc, &mut params, "%1", ParamKind::Block, "%E")?;
     push_param(alloc, &mut params, "%2", ParamKind::Block, "Integer")?;
-    let mut world = world_of(alloc, "Array", "m", params, Ty::Untyped)?;
+    world_of(alloc, "Array", "m", params, Ty::Untyped)
+}
+
+// What a block with so many names is given by it, as it is shown.
+fn given_to_block(alloc: Global, names: u32) -> Result<String, NoMemory> {
+    let mut world = giving_world(alloc)?;
     add(alloc, &mut world, "Array")?;
     let on = recv(alloc, array(alloc, class(alloc, "String")?)?, "m")?;
     let mut given = args(alloc);
@@ -311,47 +363,48 @@ fn given_to_block(alloc: Global, names: u32) -> Result<String, NoMemory> {
         names,
         ty: Ty::Untyped,
     });
-    let end = call(alloc, &world, &on, &given)?;
-    let mut text = String::new(alloc);
-    for ty in end.block.as_slice() {
-        text.push_str(show(alloc, ty)?.as_str())?;
-        text.push_str(";")?;
-    }
-    Ok(text)
+    shown_types(alloc, call(alloc, &world, &on, &given)?.block.as_slice())
 }
+
+const BLOCKS: &[(u32, &str)] = &[
+    (0, ""),
+    (1, "String;"),
+    (2, "String;Integer;"),
+    (3, "T.untyped;T.untyped;T.untyped;"),
+];
 
 #[test]
 fn blocks_are_given_types(rt: HostRuntime) -> Result<(), NoMemory> {
-    let alloc = rt.alloc();
-    for (names, want) in [
-        (0, ""),
-        (1, "String;"),
-        (2, "String;Integer;"),
-        (3, "T.untyped;T.untyped;T.untyped;"),
-    ] {
-        assert_eq!(rt; given_to_block(alloc, names)?.as_str(), want);
+    for (names, want) in BLOCKS {
+        assert_eq!(rt; given_to_block(rt.alloc(), *names)?.as_str(), *want);
     }
     Ok(())
 }
 
-#[test]
-fn new_takes_what_initialize_takes(rt: HostRuntime) -> Result<(), NoMemory> {
-    let alloc = rt.alloc();
+// What `A.new` is told with so many arguments, where `initialize` takes an `Integer`.
+fn told_of_new(alloc: Global, places: usize, place: &str) -> Result<String, NoMemory> {
     let mut params = Items::new(alloc);
     push_param(alloc, &mut params, "a", ParamKind::Required, "Integer")?;
-    let world = world_of(alloc, "A", "initialize", params, class(alloc, "String")?)?;
+    let world = world_of(alloc, "A", "initialize", params, Ty::Untyped)?;
     let on = recv(alloc, Ty::Meta(name(alloc, "A")?), "new")?;
-    for (places, place, want) in [
-        (1, "Integer", "A"),
-        (
-            1,
-            "String",
-            "argument a of new expects Integer, found String;A",
-        ),
-        (0, "", "too few arguments for new;A"),
-    ] {
-        let text = told(alloc, &world, &on, &given(alloc, places, place, "", "")?)?;
-        assert_eq!(rt; text.as_str(), want);
+    told(alloc, &world, &on, &given(alloc, places, place, "", "")?)
+}
+
+const MADE: &[(usize, &str, &str)] = &[
+    (1, "Integer", "A"),
+    (
+        1,
+        "String",
+        "argument a of new expects Integer, found String;A",
+    ),
+    (0, "", "too few arguments for new;A"),
+];
+
+#[test]
+fn new_takes_what_initialize_takes(rt: HostRuntime) -> Result<(), NoMemory> {
+    for (places, place, want) in MADE {
+        let text = told_of_new(rt.alloc(), *places, place)?;
+        assert_eq!(rt; text.as_str(), *want);
     }
     Ok(())
 }
