@@ -119,8 +119,8 @@ def text(n, value, more=""):
     return f"# typed: true\nx{n} = T.let({value}, Integer)\n" + "y = T.let(1, Integer)\n" * (LINES - 2) + more
 
 
-def write_files(folder):
-    for n in range(FILES):
+def write_files(folder, count=FILES):
+    for n in range(count):
         (pathlib.Path(folder) / f"f{n:04}.rb").write_text(text(n, '"a"'))
 
 

@@ -1,22 +1,24 @@
 -- What messages do to documents, said of rows.
-use Rattle.std.proofs.Common.{◌≡◌, ℕ, ◌+◌, ◌<◌, ◌≤◌, Bool, true, false, not, ◌&&◌, List, [], ◌∷◌, length, slice_set, insert, map, refl, sym, ap, ◌∙◌, subst, arith}
+use Rattle.std.proofs.Common.{◌≡◌, ℕ, ◌+◌, ◌<◌, ◌≤◌, Bool, true, false, not, ◌&&◌, List, [], ◌∷◌, length, insert, map, refl, sym, ap, ◌∙◌, subst, arith}
 use Rattle.std.specs.Prelude.{Option, Some, None, is_some, IsSome, IfErr, IsErrAnd, Result, Ok, Err, nat_lt, nat_le, slice_get, remove, unwrap_or, encode_utf8_all, if◌then◌else◌}
 use Rattle.std.specs.Str.{chars}
 use Rattle.std.proofs.lemmas.Bool.{lt-ltb, le-ltb, le-leb, lt-leb}
+use Rattle.srb_terms.specs.PathMaps.{IsPlaceOf, set_value}
 use Rattle.srb_terms.specs.Projects.{File, bytes_at, put_file}
 use Rattle.lsp_msg.specs.declared.change.Change.{Change}
+use Rattle.lsp_docs.specs.declared.doc.Doc.{Doc}
 use Rattle.lsp_docs.specs.declared.doc_end.DocEnd.{DocEnd}
 use Rattle.lsp_docs.specs.declared.doc_end.DocEnd.TheVariants.{Foreign, Unknown, TooMany, TooBig}
-use Rattle.lsp_docs.specs.declared.row.Row.{Row}
 use Rattle.lsp_docs.specs.Paths.{Path, Bytes, has, with_path, without_path}
 use Rattle.lsp_docs.specs.Projects.{Project, Edit, paths_of, with_bytes, after_edit, total_bytes}
 use Rattle.lsp_docs.specs.Documents.{Agreed, Documents, Deed, MOST_FILES, IsDoneFor, after_change, after_deed, agreed_by, no_documents, changes, changes_now, closes, if_open, opens, path_of, sized, where_named}
 use Rattle.srb_text.specs.Limits.{MOST_BYTES}
 use Rattle.srb_text.specs.declared.Encoding.{Encoding}
 use Rattle.lsp_docs.specs.Changes.{after_changes, sized_text, sum_with}
-use Rattle.lsp_docs.specs.Rows.{present_of, present_with, size_of, reading, project_of, documents_of, closed_row, opened_row, saved_row, AreRows, IsPlaceOf}
-use Rattle.lsp_docs.proofs.RowLemmas.{Turned, of_row, paths_of-with_bytes, turned-reading, turned-same, turned-with, turned-paths, turned_set, turned_removed, turned_inserted, turned_none, length-project_of}
-use Rattle.lsp_docs.proofs.RowsHold.{bytes_here, bytes_absent, open_here, reading-closed, saved-closed, opened-closed}
+use Rattle.lsp_docs.specs.Rows.{Row, AreRows, IsOpenAt, closed_doc, closed_row, documents_of, opened_doc, present_of, present_with, project_of, reading, saved_doc, size_of}
+use Rattle.lsp_docs.proofs.PathLemmas.{has-paths_of}
+use Rattle.lsp_docs.proofs.RowLemmas.{bytes_absent, bytes_here, kept-inserted, kept-removed, kept-set, length-project_of, paths-set, paths_of-with_bytes, reading-inserted, reading-removed, reading-set, total-with, total-with_new}
+use Rattle.lsp_docs.proofs.RowsHold.{opened-closed, present_at, reading-closed, saved-closed}
 
 -- ---- the tests
 sized_fits : (d : Documents) (e : Edit) (opened : List Path) (n : ℕ) → total_bytes (after_edit d.project e) ≡ n → n ≤ MOST_BYTES
@@ -67,68 +69,65 @@ known_of : (d : Documents) (words : Bytes) (f : Path) (o : Option Bytes) → byt
 known_of d words f None is some = cc
 known_of d words f (Some b) is some = opens_known d words f b is
 
-edit_done : (agreed : Agreed) (f : Path) (rows new : List Row) (was now : Option Row) (opened : List Path) → Turned f rows new was now
-    → of_row (λ r. r.saved) was ≡ of_row (λ r. r.saved) now → paths_of (reading (λ r. r.text) new) ≡ opened
-    → documents_of agreed new ≡ after_deed (documents_of agreed rows) (Deed.Edits (record { path = f; now = of_row present_of now }) opened)
-edit_done agreed f rows new was now opened t saved paths =
-    let project = turned-reading present_of f rows new was now t in
-    let kept = turned-same (λ r. r.saved) f rows new was now t saved in
-    ap (λ p. docs_with agreed p (reading (λ r. r.saved) new) (paths_of (reading (λ r. r.text) new))) project
-    ∙ ap (λ s. docs_with agreed (with_bytes f (of_row present_of now) (project_of rows)) s (paths_of (reading (λ r. r.text) new))) kept
-    ∙ ap (λ o. docs_with agreed (with_bytes f (of_row present_of now) (project_of rows)) (reading (λ r. r.saved) rows) o) paths
+edit_done : (agreed : Agreed) (f : Path) (o : Option Bytes) (rows new : List Row) (opened : List Path) → project_of new ≡ with_bytes f o (project_of rows)
+    → reading (λ d. d.saved) new ≡ reading (λ d. d.saved) rows → paths_of (reading (λ d. d.text) new) ≡ opened
+    → documents_of agreed new ≡ after_deed (documents_of agreed rows) (Deed.Edits (record { path = f; now = o }) opened)
+edit_done agreed f o rows new opened project saved paths =
+    ap (λ p. docs_with agreed p (reading (λ d. d.saved) new) (paths_of (reading (λ d. d.text) new))) project
+    ∙ ap (λ s. docs_with agreed (with_bytes f o (project_of rows)) s (paths_of (reading (λ d. d.text) new))) saved
+    ∙ ap (λ fs. docs_with agreed (with_bytes f o (project_of rows)) (reading (λ d. d.saved) rows) fs) paths
 
 -- ---- didOpen
-pub opens_again : (agreed : Agreed) (rows new : List Row) (i : ℕ) (r : Row) (words : Bytes) (others : ℕ) → AreRows rows → slice_get rows i ≡ Some r
-    → new ≡ slice_set rows i (opened_row r (chars words)) → encode_utf8_all (chars words) ≡ words
-    → others + size_of (present_of r) ≡ total_bytes (project_of rows) → others + length words ≤ MOST_BYTES → IsSome (present_of r)
-    → IsDoneFor (opens (documents_of agreed rows) words r.path) (documents_of agreed rows) (documents_of agreed new) (record { path = r.path; edit = true })
-opens_again agreed rows new i r words others are get set spelled sum fits some =
-    let now = opened_row r (chars words) in
-    let t = turned_set rows i r now are get refl in
-    let d = documents_of agreed rows in
-    let edit : Edit = record { path = r.path; now = Some words } in
-    let total = turned-with r.path rows (slice_set rows i now) (Some r) (Some now) t (Some words) in
-    let opened = turned-reading (λ x. x.text) r.path rows (slice_set rows i now) (Some r) (Some now) t in
-    let paths = ap paths_of opened ∙ paths_of-with_bytes r.path (Some (chars words)) (reading (λ x. x.text) rows) in
-    let bytes = bytes_here present_of rows i r are get in
+pub opens_again : (agreed : Agreed) (f : Path) (rows new : List Row) (i : ℕ) (d : Doc) (words : Bytes) (others : ℕ) → AreRows rows → slice_get rows i ≡ Some (f, d)
+    → new ≡ set_value rows i (opened_doc d (chars words)) → encode_utf8_all (chars words) ≡ words
+    → others + size_of (present_of d) ≡ total_bytes (project_of rows) → others + length words ≤ MOST_BYTES
+    → IsDoneFor (opens (documents_of agreed rows) words f) (documents_of agreed rows) (documents_of agreed new) (record { path = f; edit = true })
+opens_again agreed f rows new i d words others are get set spelled sum fits =
+    let now = opened_doc d (chars words) in
+    let docs = documents_of agreed rows in
+    let edit : Edit = record { path = f; now = Some words } in
+    let opened = with_path f docs.opened in
+    let total = total-with rows i (f, d) (Some words) are.ordered get in
+    let paths = ap paths_of (reading-set (λ x. x.text) rows i (f, d) now are.ordered get) ∙ paths_of-with_bytes f (Some (chars words)) (reading (λ x. x.text) rows) in
     record {
-      deed = Deed.Edits edit (with_path r.path d.opened);
-      accepted = known_of d words r.path (present_of r) bytes some ∙ sized_fits d edit (with_path r.path d.opened) (others + length words) (omega (arith, total, sum)) fits;
-      done = ap (documents_of agreed) set ∙ edit_done agreed r.path rows (slice_set rows i now) (Some r) (Some now) (with_path r.path d.opened) t refl paths
-          ∙ ap (λ b. after_deed d (Deed.Edits (record { path = r.path; now = Some b }) (with_path r.path d.opened))) spelled;
+      deed = Deed.Edits edit opened;
+      accepted = known_of docs words f (present_of d) (bytes_here present_of rows i (f, d) are.ordered get) (present_at rows i (f, d) are.present get)
+          ∙ sized_fits docs edit opened (others + length words) (omega (arith, total, sum)) fits;
+      done = ap (documents_of agreed) set
+          ∙ edit_done agreed f (Some (encode_utf8_all (chars words))) rows (set_value rows i now) opened (reading-set present_of rows i (f, d) now are.ordered get)
+          (kept-set (λ x. x.saved) rows i (f, d) now get refl) paths
+          ∙ ap (λ b. after_deed docs (Deed.Edits (record { path = f; now = Some b }) opened)) spelled;
       told = refl;
     }
 
-pub opens_again_big : (agreed : Agreed) (rows : List Row) (i : ℕ) (r : Row) (words : Bytes) (others : ℕ) → AreRows rows → slice_get rows i ≡ Some r
-    → others + size_of (present_of r) ≡ total_bytes (project_of rows) → MOST_BYTES < others + length words → IsSome (present_of r)
-    → opens (documents_of agreed rows) words r.path ≡ Err (TooBig (others + length words))
-opens_again_big agreed rows i r words others are get sum big some =
-    let t = turned_removed rows i r are get in
-    let d = documents_of agreed rows in
-    let edit : Edit = record { path = r.path; now = Some words } in
-    let total = turned-with r.path rows (remove rows i) (Some r) None t (Some words) in
-    known_of d words r.path (present_of r) (bytes_here present_of rows i r are get) some
-    ∙ sized_big d edit (with_path r.path d.opened) (others + length words) (omega (arith, total, sum)) big
+pub opens_again_big : (agreed : Agreed) (f : Path) (rows : List Row) (i : ℕ) (d : Doc) (words : Bytes) (others : ℕ) → AreRows rows → slice_get rows i ≡ Some (f, d)
+    → others + size_of (present_of d) ≡ total_bytes (project_of rows) → MOST_BYTES < others + length words
+    → opens (documents_of agreed rows) words f ≡ Err (TooBig (others + length words))
+opens_again_big agreed f rows i d words others are get sum big =
+    let docs = documents_of agreed rows in
+    let total = total-with rows i (f, d) (Some words) are.ordered get in
+    known_of docs words f (present_of d) (bytes_here present_of rows i (f, d) are.ordered get) (present_at rows i (f, d) are.present get)
+    ∙ sized_big docs (record { path = f; now = Some words }) (with_path f docs.opened) (others + length words) (omega (arith, total, sum)) big
 
 pub opens_new : (agreed : Agreed) (f : Path) (rows new : List Row) (i : ℕ) (words : Bytes) → AreRows rows → IsPlaceOf f rows i → length rows < MOST_FILES
-    → new ≡ insert rows i (record { path = f; saved = None; text = Some (chars words) }) → encode_utf8_all (chars words) ≡ words
+    → new ≡ insert rows i (f, record { saved = None; text = Some (chars words) }) → encode_utf8_all (chars words) ≡ words
     → total_bytes (project_of rows) + length words ≤ MOST_BYTES
     → IsDoneFor (opens (documents_of agreed rows) words f) (documents_of agreed rows) (documents_of agreed new) (record { path = f; edit = true })
 opens_new agreed f rows new i words are place room set spelled fits =
-    let now : Row = record { path = f; saved = None; text = Some (chars words) } in
-    let t = turned_inserted f rows i now place refl in
-    let d = documents_of agreed rows in
+    let now : Doc = record { saved = None; text = Some (chars words) } in
+    let docs = documents_of agreed rows in
     let edit : Edit = record { path = f; now = Some words } in
-    let total = turned-with f rows (insert rows i now) None (Some now) t (Some words) in
-    let opened = turned-reading (λ x. x.text) f rows (insert rows i now) None (Some now) t in
-    let paths = ap paths_of opened ∙ paths_of-with_bytes f (Some (chars words)) (reading (λ x. x.text) rows) in
-    let count = length-project_of rows are in
+    let opened = with_path f docs.opened in
+    let paths = ap paths_of (reading-inserted (λ x. x.text) f now rows i place) ∙ paths_of-with_bytes f (Some (chars words)) (reading (λ x. x.text) rows) in
+    let count = length-project_of rows are.present in
     record {
-      deed = Deed.Edits edit (with_path f d.opened);
-      accepted = opens_room d words f (bytes_absent present_of f rows i place) (omega (arith, count, room))
-          ∙ sized_fits d edit (with_path f d.opened) (total_bytes (project_of rows) + length words) (omega (arith, total)) fits;
-      done = ap (documents_of agreed) set ∙ edit_done agreed f rows (insert rows i now) None (Some now) (with_path f d.opened) t refl paths
-          ∙ ap (λ b. after_deed d (Deed.Edits (record { path = f; now = Some b }) (with_path f d.opened))) spelled;
+      deed = Deed.Edits edit opened;
+      accepted = opens_room docs words f (bytes_absent present_of f rows i place refl) (omega (arith, count, room))
+          ∙ sized_fits docs edit opened (total_bytes (project_of rows) + length words) (total-with_new f rows i (Some words) place) fits;
+      done = ap (documents_of agreed) set
+          ∙ edit_done agreed f (Some (encode_utf8_all (chars words))) rows (insert rows i (f, now)) opened (reading-inserted present_of f now rows i place)
+          (kept-inserted (λ x. x.saved) f now rows i refl) paths
+          ∙ ap (λ b. after_deed docs (Deed.Edits (record { path = f; now = Some b }) opened)) spelled;
       told = refl;
     }
 
@@ -136,18 +135,17 @@ pub opens_new_big : (agreed : Agreed) (f : Path) (rows : List Row) (i : ℕ) (wo
     → MOST_BYTES < total_bytes (project_of rows) + length words
     → opens (documents_of agreed rows) words f ≡ Err (TooBig (total_bytes (project_of rows) + length words))
 opens_new_big agreed f rows i words are place room big =
-    let t = turned_none f rows i place in
-    let d = documents_of agreed rows in
-    let edit : Edit = record { path = f; now = Some words } in
-    let total = turned-with f rows rows None None t (Some words) in
-    opens_room d words f (bytes_absent present_of f rows i place) (omega (arith, length-project_of rows are, room))
-    ∙ sized_big d edit (with_path f d.opened) (total_bytes (project_of rows) + length words) (omega (arith, total)) big
+    let docs = documents_of agreed rows in
+    opens_room docs words f (bytes_absent present_of f rows i place refl) (omega (arith, length-project_of rows are.present, room))
+    ∙ sized_big docs (record { path = f; now = Some words }) (with_path f docs.opened) (total_bytes (project_of rows) + length words)
+    (total-with_new f rows i (Some words) place) big
 
 pub opens_many : (agreed : Agreed) (f : Path) (rows : List Row) (i : ℕ) (words : Bytes) → AreRows rows → IsPlaceOf f rows i → MOST_FILES ≤ length rows
     → opens (documents_of agreed rows) words f ≡ Err (TooMany (length rows))
 opens_many agreed f rows i words are place full =
-    opens_full (documents_of agreed rows) words f (bytes_absent present_of f rows i place) (omega (arith, length-project_of rows are, full))
-    ∙ ap (λ n. Err (TooMany n)) (length-project_of rows are)
+    let count = length-project_of rows are.present in
+    opens_full (documents_of agreed rows) words f (bytes_absent present_of f rows i place refl) (omega (arith, count, full))
+    ∙ ap (λ n. Err (TooMany n)) count
 
 -- ---- didChange
 abbrev deed_of : Documents → Path → Result (List ℕ) DocEnd → Result Deed DocEnd
@@ -186,137 +184,133 @@ changes_are d f others totals (c ∷ cs) text = by (after_change d.agreed.encodi
         ap (λ n. changes_rest d f new cs (if nat_lt MOST_BYTES n then Err (TooBig n) else Ok (Deed.Edits (record { path = f; now = Some (encode_utf8_all new) }) d.opened))) (totals (encode_utf8_all new))
         ∙ by_size new (nat_lt MOST_BYTES (sum_with others new)) (rest new)
 
-totals_of : (rows : List Row) (i : ℕ) (r : Row) (others : ℕ) → AreRows rows → slice_get rows i ≡ Some r
-    → others + size_of (present_of r) ≡ total_bytes (project_of rows) → (b : Bytes) → total_bytes (put_file r.path b (project_of rows)) ≡ others + length b
-totals_of rows i r others are get sum b =
-    let total = turned-with r.path rows (remove rows i) (Some r) None (turned_removed rows i r are get) (Some b) in
-    omega (arith, total, sum)
+totals_of : (f : Path) (rows : List Row) (i : ℕ) (d : Doc) (others : ℕ) → AreRows rows → slice_get rows i ≡ Some (f, d)
+    → others + size_of (present_of d) ≡ total_bytes (project_of rows) → (o : Option Bytes) → total_bytes (with_bytes f o (project_of rows)) ≡ others + size_of o
+totals_of f rows i d others are get sum o =
+    let total = total-with rows i (f, d) o are.ordered get in omega (arith, total, sum)
 
--- the row is open with this text
-pub record IsOpenRow (rows : List Row) (i : ℕ) (r : Row) (text : List ℕ) : Type 0 where
-  pub are : AreRows rows
-  pub here : slice_get rows i ≡ Some r
-  pub with_text : r.text ≡ Some text
+present_is : (d : Doc) (text : List ℕ) → d.text ≡ Some text → present_of d ≡ Some (encode_utf8_all text)
+present_is d text is = ap (λ o. present_with d.saved o) is
 
-pub present_is : (r : Row) (text : List ℕ) → r.text ≡ Some text → present_of r ≡ Some (encode_utf8_all text)
-present_is r text is = ap (λ o. present_with r.saved o) is
+pub bytes_open : (f : Path) (rows : List Row) (i : ℕ) (text : List ℕ) → AreRows rows → IsOpenAt f rows i text
+    → bytes_at f (project_of rows) ≡ Some (encode_utf8_all text)
+bytes_open f rows i text are at = bytes_here present_of rows i (f, at.doc) are.ordered at.here ∙ present_is at.doc text at.with_text
 
-changes_start : (agreed : Agreed) (rows : List Row) (i : ℕ) (r : Row) (text : List ℕ) (list : List Change) → IsOpenRow rows i r text
-    → chars (encode_utf8_all text) ≡ text
-    → if_open (documents_of agreed rows) (changes_now (documents_of agreed rows) list) r.path ≡ changes (documents_of agreed rows) r.path text list
-changes_start agreed rows i r text list at spelled =
-    let d = documents_of agreed rows in
-    let present : bytes_at r.path d.project ≡ Some (encode_utf8_all text) = bytes_here present_of rows i r at.are at.here ∙ present_is r text at.with_text in
-    open_is d (changes_now d list) r.path (open_here rows i r at.are at.here ∙ ap is_some at.with_text)
-    ∙ ap (λ o. changes d r.path (chars (unwrap_or o [])) list) present
-    ∙ ap (λ t. changes d r.path t list) spelled
+if_open_is : (agreed : Agreed) (f : Path) (rows : List Row) (i : ℕ) (text : List ℕ) (deed : Path → Result Deed DocEnd) → AreRows rows → IsOpenAt f rows i text
+    → if_open (documents_of agreed rows) deed f ≡ deed f
+if_open_is agreed f rows i text deed are at =
+    open_is (documents_of agreed rows) deed f
+    (has-paths_of f (reading (λ x. x.text) rows) ∙ ap is_some (bytes_here (λ x. x.text) rows i (f, at.doc) are.ordered at.here ∙ at.with_text))
 
-pub changes_done : (agreed : Agreed) (rows new : List Row) (i : ℕ) (r : Row) (text fresh : List ℕ) (list : List Change) (others : ℕ) → IsOpenRow rows i r text
-    → chars (encode_utf8_all text) ≡ text → others + size_of (present_of r) ≡ total_bytes (project_of rows)
-    → after_changes agreed.encoding others text list ≡ Ok fresh → new ≡ slice_set rows i (opened_row r fresh)
-    → IsDoneFor (if_open (documents_of agreed rows) (changes_now (documents_of agreed rows) list) r.path) (documents_of agreed rows) (documents_of agreed new) (record { path = r.path; edit = true })
-changes_done agreed rows new i r text fresh list others at spelled sum after set =
-    let now = opened_row r fresh in
-    let t = turned_set rows i r now at.are at.here refl in
-    let d = documents_of agreed rows in
+changes_start : (agreed : Agreed) (f : Path) (rows : List Row) (i : ℕ) (text : List ℕ) (list : List Change) (others : ℕ) → AreRows rows → (at : IsOpenAt f rows i text)
+    → chars (encode_utf8_all text) ≡ text → others + size_of (present_of at.doc) ≡ total_bytes (project_of rows)
+    → if_open (documents_of agreed rows) (changes_now (documents_of agreed rows) list) f ≡ deed_of (documents_of agreed rows) f (after_changes agreed.encoding others text list)
+changes_start agreed f rows i text list others are at spelled sum =
+    let docs = documents_of agreed rows in
+    if_open_is agreed f rows i text (changes_now docs list) are at
+    ∙ ap (λ o. changes docs f (chars (unwrap_or o [])) list) (bytes_open f rows i text are at)
+    ∙ ap (λ t. changes docs f t list) spelled
+    ∙ changes_are docs f others (λ b. totals_of f rows i at.doc others are at.here sum (Some b)) list text
+
+pub changes_done : (agreed : Agreed) (f : Path) (rows new : List Row) (i : ℕ) (text fresh : List ℕ) (list : List Change) (others : ℕ) → AreRows rows
+    → (at : IsOpenAt f rows i text) → chars (encode_utf8_all text) ≡ text → others + size_of (present_of at.doc) ≡ total_bytes (project_of rows)
+    → after_changes agreed.encoding others text list ≡ Ok fresh → new ≡ set_value rows i (opened_doc at.doc fresh)
+    → IsDoneFor (if_open (documents_of agreed rows) (changes_now (documents_of agreed rows) list) f) (documents_of agreed rows) (documents_of agreed new) (record { path = f; edit = true })
+changes_done agreed f rows new i text fresh list others are at spelled sum after set =
+    let now = opened_doc at.doc fresh in
+    let docs = documents_of agreed rows in
     record {
-      deed = Deed.Edits (record { path = r.path; now = Some (encode_utf8_all fresh) }) d.opened;
-      accepted = changes_start agreed rows i r text list at spelled ∙ changes_are d r.path others (totals_of rows i r others at.are at.here sum) list text ∙ ap (deed_of d r.path) after;
-      done = ap (documents_of agreed) set ∙ edit_done agreed r.path rows (slice_set rows i now) (Some r) (Some now) d.opened t refl
-          (turned-paths (λ x. x.text) r.path rows (slice_set rows i now) r now t text fresh at.with_text refl);
+      deed = Deed.Edits (record { path = f; now = Some (encode_utf8_all fresh) }) docs.opened;
+      accepted = changes_start agreed f rows i text list others are at spelled sum ∙ ap (deed_of docs f) after;
+      done = ap (documents_of agreed) set
+          ∙ edit_done agreed f (Some (encode_utf8_all fresh)) rows (set_value rows i now) docs.opened (reading-set present_of rows i (f, at.doc) now are.ordered at.here)
+          (kept-set (λ x. x.saved) rows i (f, at.doc) now at.here refl) (paths-set (λ x. x.text) rows i (f, at.doc) now text fresh at.here at.with_text refl);
       told = refl;
     }
 
-pub changes_refused : (agreed : Agreed) (rows : List Row) (i : ℕ) (r : Row) (text : List ℕ) (list : List Change) (others : ℕ) (e : DocEnd) → IsOpenRow rows i r text
-    → chars (encode_utf8_all text) ≡ text → others + size_of (present_of r) ≡ total_bytes (project_of rows)
+pub changes_refused : (agreed : Agreed) (f : Path) (rows : List Row) (i : ℕ) (text : List ℕ) (list : List Change) (others : ℕ) (e : DocEnd) → AreRows rows
+    → (at : IsOpenAt f rows i text) → chars (encode_utf8_all text) ≡ text → others + size_of (present_of at.doc) ≡ total_bytes (project_of rows)
     → after_changes agreed.encoding others text list ≡ Err e
-    → if_open (documents_of agreed rows) (changes_now (documents_of agreed rows) list) r.path ≡ Err e
-changes_refused agreed rows i r text list others e at spelled sum after =
-    let d = documents_of agreed rows in
-    changes_start agreed rows i r text list at spelled ∙ changes_are d r.path others (totals_of rows i r others at.are at.here sum) list text ∙ ap (deed_of d r.path) after
+    → if_open (documents_of agreed rows) (changes_now (documents_of agreed rows) list) f ≡ Err e
+changes_refused agreed f rows i text list others e are at spelled sum after =
+    changes_start agreed f rows i text list others are at spelled sum ∙ ap (deed_of (documents_of agreed rows) f) after
 
 -- ---- didSave
-pub saves_done : (agreed : Agreed) (rows new : List Row) (i : ℕ) (r : Row) (text bytes : List ℕ) → IsOpenRow rows i r text → bytes ≡ encode_utf8_all text
-    → new ≡ slice_set rows i (saved_row r bytes)
-    → IsDoneFor (if_open (documents_of agreed rows) (λ f. Ok (Deed.Saves f)) r.path) (documents_of agreed rows) (documents_of agreed new) (record { path = r.path; edit = false })
-saves_done agreed rows new i r text bytes at same set =
-    let now = saved_row r bytes in
-    let t = turned_set rows i r now at.are at.here refl in
-    let d = documents_of agreed rows in
-    let after = slice_set rows i now in
-    let present : of_row present_of (Some r) ≡ of_row present_of (Some now) = present_is r text at.with_text ∙ sym (present_is now text at.with_text) in
-    let project = turned-same present_of r.path rows after (Some r) (Some now) t present in
-    let opened = turned-same (λ x. x.text) r.path rows after (Some r) (Some now) t refl in
-    let saved = turned-reading (λ x. x.saved) r.path rows after (Some r) (Some now) t in
-    let held : unwrap_or (bytes_at r.path d.project) [] ≡ bytes = ap (λ o. unwrap_or o []) (bytes_here present_of rows i r at.are at.here ∙ present_is r text at.with_text) ∙ sym same in
+pub saves_done : (agreed : Agreed) (f : Path) (rows new : List Row) (i : ℕ) (text bytes : List ℕ) → AreRows rows → (at : IsOpenAt f rows i text)
+    → bytes ≡ encode_utf8_all text → new ≡ set_value rows i (saved_doc at.doc bytes)
+    → IsDoneFor (if_open (documents_of agreed rows) (λ g. Ok (Deed.Saves g)) f) (documents_of agreed rows) (documents_of agreed new) (record { path = f; edit = false })
+saves_done agreed f rows new i text bytes are at same set =
+    let now = saved_doc at.doc bytes in
+    let after = set_value rows i now in
+    let project = kept-set present_of rows i (f, at.doc) now at.here (present_is now text at.with_text ∙ sym (present_is at.doc text at.with_text)) in
+    let opened = kept-set (λ x. x.text) rows i (f, at.doc) now at.here refl in
+    let saved = reading-set (λ x. x.saved) rows i (f, at.doc) now are.ordered at.here in
+    let held : unwrap_or (bytes_at f (project_of rows)) [] ≡ bytes = ap (λ o. unwrap_or o []) (bytes_open f rows i text are at) ∙ sym same in
     record {
-      deed = Deed.Saves r.path;
-      accepted = open_is d (λ f. Ok (Deed.Saves f)) r.path (open_here rows i r at.are at.here ∙ ap is_some at.with_text);
+      deed = Deed.Saves f;
+      accepted = if_open_is agreed f rows i text (λ g. Ok (Deed.Saves g)) are at;
       done = ap (documents_of agreed) set
           ∙ ap (λ p. docs_with agreed p (reading (λ x. x.saved) after) (paths_of (reading (λ x. x.text) after))) project
           ∙ ap (λ s. docs_with agreed (project_of rows) s (paths_of (reading (λ x. x.text) after))) saved
-          ∙ ap (λ o. docs_with agreed (project_of rows) (put_file r.path bytes (reading (λ x. x.saved) rows)) (paths_of o)) opened
-          ∙ ap (λ b. docs_with agreed (project_of rows) (put_file r.path b (reading (λ x. x.saved) rows)) (paths_of (reading (λ x. x.text) rows))) (sym held);
+          ∙ ap (λ o. docs_with agreed (project_of rows) (put_file f bytes (reading (λ x. x.saved) rows)) (paths_of o)) opened
+          ∙ ap (λ b. docs_with agreed (project_of rows) (put_file f b (reading (λ x. x.saved) rows)) (paths_of (reading (λ x. x.text) rows))) (sym held);
       told = refl;
     }
 
 -- ---- didClose
-abbrev closing_edit : Row → Edit
-closing_edit r = record { path = r.path; now = r.saved }
+abbrev closing_edit : Path → Doc → Edit
+closing_edit f d = record { path = f; now = d.saved }
 
-closes_start : (agreed : Agreed) (rows : List Row) (i : ℕ) (r : Row) (text : List ℕ) → IsOpenRow rows i r text
-    → if_open (documents_of agreed rows) (closes (documents_of agreed rows)) r.path
-    ≡ sized (documents_of agreed rows) (closing_edit r) (without_path r.path (documents_of agreed rows).opened)
-closes_start agreed rows i r text at =
-    let d = documents_of agreed rows in
-    open_is d (closes d) r.path (open_here rows i r at.are at.here ∙ ap is_some at.with_text)
-    ∙ ap (λ o. sized d (record { path = r.path; now = o }) (without_path r.path d.opened)) (bytes_here (λ x. x.saved) rows i r at.are at.here)
+closes_start : (agreed : Agreed) (f : Path) (rows : List Row) (i : ℕ) (text : List ℕ) → AreRows rows → (at : IsOpenAt f rows i text)
+    → if_open (documents_of agreed rows) (closes (documents_of agreed rows)) f
+    ≡ sized (documents_of agreed rows) (closing_edit f at.doc) (without_path f (documents_of agreed rows).opened)
+closes_start agreed f rows i text are at =
+    let docs = documents_of agreed rows in
+    if_open_is agreed f rows i text (closes docs) are at
+    ∙ ap (λ o. sized docs (record { path = f; now = o }) (without_path f docs.opened)) (bytes_here (λ x. x.saved) rows i (f, at.doc) are.ordered at.here)
 
-closed_total : (rows : List Row) (i : ℕ) (r : Row) (others : ℕ) → AreRows rows → slice_get rows i ≡ Some r
-    → others + size_of (present_of r) ≡ total_bytes (project_of rows) → total_bytes (with_bytes r.path r.saved (project_of rows)) ≡ others + size_of r.saved
-closed_total rows i r others are get sum =
-    let total = turned-with r.path rows (remove rows i) (Some r) None (turned_removed rows i r are get) r.saved in
-    omega (arith, total, sum)
+pub closes_big : (agreed : Agreed) (f : Path) (rows : List Row) (i : ℕ) (text : List ℕ) (others : ℕ) → AreRows rows → (at : IsOpenAt f rows i text)
+    → others + size_of (present_of at.doc) ≡ total_bytes (project_of rows) → MOST_BYTES < others + size_of at.doc.saved
+    → if_open (documents_of agreed rows) (closes (documents_of agreed rows)) f ≡ Err (TooBig (others + size_of at.doc.saved))
+closes_big agreed f rows i text others are at sum big =
+    let docs = documents_of agreed rows in
+    closes_start agreed f rows i text are at
+    ∙ sized_big docs (closing_edit f at.doc) (without_path f docs.opened) (others + size_of at.doc.saved) (totals_of f rows i at.doc others are at.here sum at.doc.saved) big
 
-pub closes_big : (agreed : Agreed) (rows : List Row) (i : ℕ) (r : Row) (text : List ℕ) (others : ℕ) → IsOpenRow rows i r text
-    → others + size_of (present_of r) ≡ total_bytes (project_of rows) → MOST_BYTES < others + size_of r.saved
-    → if_open (documents_of agreed rows) (closes (documents_of agreed rows)) r.path ≡ Err (TooBig (others + size_of r.saved))
-closes_big agreed rows i r text others at sum big =
-    closes_start agreed rows i r text at
-    ∙ sized_big (documents_of agreed rows) (closing_edit r) (without_path r.path (documents_of agreed rows).opened) (others + size_of r.saved) (closed_total rows i r others at.are at.here sum) big
-
-pub closes_back : (agreed : Agreed) (rows new : List Row) (i : ℕ) (r : Row) (text : List ℕ) (others : ℕ) → IsOpenRow rows i r text
-    → others + size_of (present_of r) ≡ total_bytes (project_of rows) → others + size_of r.saved ≤ MOST_BYTES
-    → new ≡ slice_set rows i (record { path = r.path; saved = r.saved; text = None })
-    → IsDoneFor (if_open (documents_of agreed rows) (closes (documents_of agreed rows)) r.path) (documents_of agreed rows) (documents_of agreed new) (record { path = r.path; edit = true })
-closes_back agreed rows new i r text others at sum fits set =
-    let now : Row = record { path = r.path; saved = r.saved; text = None } in
-    let t = turned_set rows i r now at.are at.here refl in
-    let d = documents_of agreed rows in
-    let opened = turned-reading (λ x. x.text) r.path rows (slice_set rows i now) (Some r) (Some now) t in
+closes_to : (agreed : Agreed) (f : Path) (rows new : List Row) (i : ℕ) (text : List ℕ) (others : ℕ) → AreRows rows → (at : IsOpenAt f rows i text)
+    → others + size_of (present_of at.doc) ≡ total_bytes (project_of rows) → others + size_of at.doc.saved ≤ MOST_BYTES
+    → project_of new ≡ with_bytes f at.doc.saved (project_of rows) → reading (λ x. x.saved) new ≡ reading (λ x. x.saved) rows
+    → reading (λ x. x.text) new ≡ with_bytes f None (reading (λ x. x.text) rows)
+    → IsDoneFor (if_open (documents_of agreed rows) (closes (documents_of agreed rows)) f) (documents_of agreed rows) (documents_of agreed new) (record { path = f; edit = true })
+closes_to agreed f rows new i text others are at sum fits project saved opened =
+    let docs = documents_of agreed rows in
     record {
-      deed = Deed.Edits (closing_edit r) (without_path r.path d.opened);
-      accepted = closes_start agreed rows i r text at ∙ sized_fits d (closing_edit r) (without_path r.path d.opened) (others + size_of r.saved) (closed_total rows i r others at.are at.here sum) fits;
-      done = ap (documents_of agreed) set ∙ edit_done agreed r.path rows (slice_set rows i now) (Some r) (Some now) (without_path r.path d.opened) t refl
-          (ap paths_of opened ∙ paths_of-with_bytes r.path None (reading (λ x. x.text) rows));
+      deed = Deed.Edits (closing_edit f at.doc) (without_path f docs.opened);
+      accepted = closes_start agreed f rows i text are at
+          ∙ sized_fits docs (closing_edit f at.doc) (without_path f docs.opened) (others + size_of at.doc.saved) (totals_of f rows i at.doc others are at.here sum at.doc.saved) fits;
+      done = edit_done agreed f at.doc.saved rows new (without_path f docs.opened) project saved (ap paths_of opened ∙ paths_of-with_bytes f None (reading (λ x. x.text) rows));
       told = refl;
     }
 
-pub closes_away : (agreed : Agreed) (rows new : List Row) (i : ℕ) (r : Row) (text : List ℕ) (others : ℕ) → IsOpenRow rows i r text
-    → others + size_of (present_of r) ≡ total_bytes (project_of rows) → others ≤ MOST_BYTES → r.saved ≡ None → new ≡ remove rows i
-    → IsDoneFor (if_open (documents_of agreed rows) (closes (documents_of agreed rows)) r.path) (documents_of agreed rows) (documents_of agreed new) (record { path = r.path; edit = true })
-closes_away agreed rows new i r text others at sum fits none set =
-    let t = turned_removed rows i r at.are at.here in
-    let d = documents_of agreed rows in
-    let opened = turned-reading (λ x. x.text) r.path rows (remove rows i) (Some r) None t in
-    record {
-      deed = Deed.Edits (closing_edit r) (without_path r.path d.opened);
-      accepted = closes_start agreed rows i r text at ∙ sized_fits d (closing_edit r) (without_path r.path d.opened) (others + size_of r.saved) (closed_total rows i r others at.are at.here sum) (omega (arith, fits, ap size_of none));
-      done = ap (documents_of agreed) set ∙ edit_done agreed r.path rows (remove rows i) (Some r) None (without_path r.path d.opened) t none
-          (ap paths_of opened ∙ paths_of-with_bytes r.path None (reading (λ x. x.text) rows))
-          ∙ ap (λ o. after_deed d (Deed.Edits (record { path = r.path; now = o }) (without_path r.path d.opened))) (sym none);
-      told = refl;
-    }
+pub closes_back : (agreed : Agreed) (f : Path) (rows new : List Row) (i : ℕ) (text : List ℕ) (others : ℕ) → AreRows rows → (at : IsOpenAt f rows i text)
+    → others + size_of (present_of at.doc) ≡ total_bytes (project_of rows) → others + size_of at.doc.saved ≤ MOST_BYTES
+    → new ≡ set_value rows i (closed_doc at.doc.saved)
+    → IsDoneFor (if_open (documents_of agreed rows) (closes (documents_of agreed rows)) f) (documents_of agreed rows) (documents_of agreed new) (record { path = f; edit = true })
+closes_back agreed f rows new i text others are at sum fits set =
+    let now = closed_doc at.doc.saved in
+    closes_to agreed f rows new i text others are at sum fits
+    (ap project_of set ∙ reading-set present_of rows i (f, at.doc) now are.ordered at.here)
+    (ap (reading (λ x. x.saved)) set ∙ kept-set (λ x. x.saved) rows i (f, at.doc) now at.here refl)
+    (ap (reading (λ x. x.text)) set ∙ reading-set (λ x. x.text) rows i (f, at.doc) now are.ordered at.here)
+
+pub closes_away : (agreed : Agreed) (f : Path) (rows new : List Row) (i : ℕ) (text : List ℕ) (others : ℕ) → AreRows rows → (at : IsOpenAt f rows i text)
+    → others + size_of (present_of at.doc) ≡ total_bytes (project_of rows) → others ≤ MOST_BYTES → at.doc.saved ≡ None → new ≡ remove rows i
+    → IsDoneFor (if_open (documents_of agreed rows) (closes (documents_of agreed rows)) f) (documents_of agreed rows) (documents_of agreed new) (record { path = f; edit = true })
+closes_away agreed f rows new i text others are at sum fits none set =
+    closes_to agreed f rows new i text others are at sum (omega (arith, fits, ap size_of none))
+    (ap project_of set ∙ reading-removed present_of rows i (f, at.doc) are.ordered at.here ∙ ap (λ o. with_bytes f o (project_of rows)) (sym none))
+    (ap (reading (λ x. x.saved)) set ∙ kept-removed (λ x. x.saved) rows i (f, at.doc) at.here none)
+    (ap (reading (λ x. x.text)) set ∙ reading-removed (λ x. x.text) rows i (f, at.doc) are.ordered at.here)
 
 -- ---- answers
 abbrev done_with : (Path → Result Deed DocEnd) → Option Path → Result Deed DocEnd
@@ -328,8 +322,8 @@ pub err_is : {T E : Type 0} (r : Result T E) (x : E) (Q : E → Type 0) → IsEr
 err_is (Ok t) x Q is q = tt
 err_is (Err e) x Q is q = subst Q (sym is) q
 
-pub open_size : (r : Row) (text : List ℕ) → r.text ≡ Some text → size_of (present_of r) ≡ length (encode_utf8_all text)
-open_size r text is = ap size_of (present_is r text is)
+pub open_size : (d : Doc) (text : List ℕ) → d.text ≡ Some text → size_of (present_of d) ≡ length (encode_utf8_all text)
+open_size d text is = ap size_of (present_is d text is)
 
 pub named_is : (d : Documents) (uri : List ℕ) (f : Path) (deed : Path → Result Deed DocEnd) → path_of d.agreed uri ≡ Some f → where_named d uri deed ≡ deed f
 named_is d uri f deed is = ap (λ o. done_with deed o) is
@@ -337,6 +331,6 @@ named_is d uri f deed is = ap (λ o. done_with deed o) is
 -- ---- the documents of a project
 pub closed_documents : (files : List File) → documents_of (agreed_by None []) (map closed_row files) ≡ no_documents files
 closed_documents files =
-    ap (λ p. docs_with (agreed_by None []) p (reading (λ r. r.saved) (map closed_row files)) (paths_of (reading (λ r. r.text) (map closed_row files)))) (reading-closed files)
-    ∙ ap (λ s. docs_with (agreed_by None []) files s (paths_of (reading (λ r. r.text) (map closed_row files)))) (saved-closed files)
+    ap (λ p. docs_with (agreed_by None []) p (reading (λ d. d.saved) (map closed_row files)) (paths_of (reading (λ d. d.text) (map closed_row files)))) (reading-closed files)
+    ∙ ap (λ s. docs_with (agreed_by None []) files s (paths_of (reading (λ d. d.text) (map closed_row files)))) (saved-closed files)
     ∙ ap (λ o. docs_with (agreed_by None []) files files (paths_of o)) (opened-closed files)

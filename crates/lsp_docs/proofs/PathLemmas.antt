@@ -3,8 +3,9 @@ use Rattle.std.proofs.Common.{◌≡◌, ◌≢◌, ℕ, suc, ◌+◌, ◌≤◌
 use Rattle.std.specs.Prelude.{Option, Some, None, is_some, bytes_eq, if◌then◌else◌}
 use Rattle.std.proofs.lemmas.Bool.Decides.{nat_tests}
 use Rattle.std.proofs.lemmas.Slice.Eq.{bytes_eq-Decides}
-use Rattle.srb_terms.specs.Projects.{bytes_at, IsBeforeAll, IsProject}
-use Rattle.srb_terms.proofs.ProjectOrder.{bytes_at-put_file, IsProject-put_file}
+use Rattle.srb_terms.specs.PathMaps.{IsBeforeAll}
+use Rattle.srb_terms.specs.Projects.{bytes_at, IsProject}
+use Rattle.srb_terms.proofs.PathOrder.{value_at-put_value, IsOrdered-put_value}
 use Rattle.lsp_docs.specs.Paths.{Path, has, with_path, without_path, with_paths, lookup, put}
 use Rattle.lsp_docs.specs.Projects.{Project, paths_of, without_file, with_bytes}
 
@@ -97,8 +98,8 @@ IsProject-without_file f (file ∷ files) order =
 -- what stands at a path after an edit of a path
 pub bytes_at-with_bytes : (f g : Path) (o : Option (List ℕ)) (p : Project) → bytes_at f (with_bytes g o p) ≡ (if bytes_eq f g then o else bytes_at f p)
 bytes_at-with_bytes f g None p = bytes_at-without_file f g p
-bytes_at-with_bytes f g (Some b) p = bytes_at-put_file f g b p
+bytes_at-with_bytes f g (Some b) p = value_at-put_value f g b p
 
 pub IsProject-with_bytes : (f : Path) (o : Option (List ℕ)) (p : Project) → IsProject p → IsProject (with_bytes f o p)
 IsProject-with_bytes f None p order = IsProject-without_file f p order
-IsProject-with_bytes f (Some b) p order = IsProject-put_file f b p order
+IsProject-with_bytes f (Some b) p order = IsOrdered-put_value f b p order

@@ -1,7 +1,8 @@
 //! What messages do to the rows of their paths.
 ghost use Rattle.std.specs.Prelude.{◌≡◌, Ok, true, false, IfErr, OnOk, OnErr};
 ghost use Rattle.lsp_docs.specs.Documents.{Saves, changes_now, closes, if_open, opens};
-ghost use Rattle.lsp_docs.specs.Rows.{IsDoneBy, IsDoneIn, IsPlaceOf, IsRefusedBy, IsRefusedIn};
+ghost use Rattle.srb_terms.specs.PathMaps.{IsPlaceOf};
+ghost use Rattle.lsp_docs.specs.Rows.{IsDoneBy, IsDoneIn, IsRefusedBy, IsRefusedIn};
 
 use crate::DocEnd;
 use crate::changes::{changed, held_text};
@@ -42,7 +43,7 @@ fn open_new(
     ensures refused { IfErr result (IsRefusedBy (λ d. opens d text.now path.now) rows.old) }
     ensures unchanged { OnErr result (rows.new ≡ rows.old) }
 {
-    let count = rows.as_slice().len();
+    let count = rows.entries().len();
     if count >= FILES_LIMIT {
         return Err(DocEnd::TooMany {
             count: count as u64,
@@ -96,9 +97,10 @@ pub fn close(rows: &mut Rows, path: &Name) -> Result<(), DocEnd>
     let Some((index, _)) = rows.find_open(path) else {
         return Err(DocEnd::Unknown);
     };
-    match &rows.as_slice()[index].saved {
+    let others = rows.others(index);
+    match &rows.doc(index).saved {
         Some(bytes) => {
-            let size = rows.others(index) + bytes.get().as_slice().len();
+            let size = others + bytes.get().as_slice().len();
             if size > BYTES_LIMIT {
                 return Err(DocEnd::TooBig { bytes: size as u64 });
             }

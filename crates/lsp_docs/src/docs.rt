@@ -99,7 +99,7 @@ impl Docs {
         ensures small { IfSome result (λ bytes. length bytes.now ≤ MOST_BYTES) }
     {
         match self.rows.find(path) {
-            Ok(index) => self.rows.as_slice()[index].present(),
+            Ok(index) => self.rows.doc(index).present(),
             Err(_) => None,
         }
     }
@@ -137,7 +137,7 @@ impl Docs {
         ensures len { result ≡ length self.now.project }
         ensures kept { AreDocuments self.now }
     {
-        self.rows.as_slice().len()
+        self.rows.entries().len()
     }
 
     /// Whether the project has no file.
@@ -152,7 +152,7 @@ impl Docs {
         requires { index < length self.now.project }
         ensures { slice_get (paths_of self.now.project) index ≡ Some result.now }
     {
-        &self.rows.as_slice()[index].path
+        self.rows.entries()[index].path()
     }
 
     // The path that a URI names.

@@ -10,14 +10,12 @@
 mod applied;
 mod apply;
 mod changes;
+mod doc;
 mod doc_end;
 mod docs;
 pub mod law;
 mod places;
-mod row;
 mod rows;
-#[cfg(test)]
-mod tests;
 mod texts;
 mod uris;
 

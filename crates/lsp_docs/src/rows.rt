@@ -1,38 +1,39 @@
 //! The rows of the documents, one a path.
-ghost use Rattle.std.specs.Prelude.{◌≡◌, ◌+◌, ◌<◌, ◌≤◌, length, map, slice_get, slice_set, insert, remove, encode_utf8_all, false, Some, None, IsSome, IfSome, IfNone, IfOk, IfErr, OnOk, OnErr};
+ghost use Rattle.std.specs.Prelude.{◌≡◌, ◌+◌, ◌<◌, ◌≤◌, length, map, slice_get, insert, remove, encode_utf8_all, false, Some, None, IsSome, IfSome, IfNone, IfOk, IfErr, OnOk, OnErr};
+ghost use Rattle.std.specs.Option.{option_map};
+ghost use Rattle.srb_terms.specs.PathMaps.{IsEntryOf, IsPlaceOf, set_value};
 ghost use Rattle.lsp_docs.specs.Paths.{has};
 ghost use Rattle.lsp_docs.specs.Projects.{paths_of, total_bytes};
 ghost use Rattle.lsp_docs.specs.Documents.{MOST_FILES};
 ghost use Rattle.srb_text.specs.Limits.{MOST_BYTES};
-ghost use Rattle.lsp_docs.specs.Rows.{AreRows, IsPlaceOf, IsRowAt, closed_row, opened_row, present_of, project_of, reading, saved_row, size_of};
+ghost use Rattle.lsp_docs.specs.Rows.{AreRows, IsOpenAt, Row, closed_doc, closed_row, opened_doc, present_of, project_of, reading, saved_doc, size_of};
 
-use crate::row::Row;
-use srb_terms::{Boxed, Items, Name, NoMemory, Project};
+use crate::doc::Doc;
+use srb_terms::{Boxed, Entry, Items, Name, NoMemory, PathMap, Project};
 use srb_text::Text;
 use std::alloc::Global;
 use std::marker::Model;
 
-/// The rows in byte order of their paths, each path once, with the sum of their present bytes. A contract sees the list of
-/// them.
+/// What is kept by path, in byte order of the paths, with the sum of the present bytes. A contract sees the list of the
+/// rows, each a path and what is kept there.
 #[derive(Drop)]
 pub struct Rows {
-    list: Vec<Row>,
+    map: PathMap<Doc>,
     total: usize,
 }
 
 impl Model for Rows {
     ghost use Rattle.std.specs.Prelude.{◌≡◌, ◌≤◌, List, length};
-    ghost use Rattle.lsp_docs.specs.declared.row.Row.{Row};
     ghost use Rattle.lsp_docs.specs.Documents.{MOST_FILES};
     ghost use Rattle.srb_text.specs.Limits.{MOST_BYTES};
     ghost use Rattle.lsp_docs.specs.Projects.{total_bytes};
-    ghost use Rattle.lsp_docs.specs.Rows.{AreRows, project_of};
+    ghost use Rattle.lsp_docs.specs.Rows.{ArePresent, Row, project_of};
 
     ghost Value = { List Row };
 
-    ghost view = { λ r. r.list.items };
+    ghost view = { λ r. r.map.entries };
 
-    ghost invariant = { λ r. AreRows r.list.items × (length r.list.items ≤ MOST_FILES) × (r.total ≡ total_bytes (project_of r.list.items)) × (r.total ≤ MOST_BYTES) };
+    ghost invariant = { λ r. ArePresent r.map.entries × (length r.map.entries ≤ MOST_FILES) × (r.total ≡ total_bytes (project_of r.map.entries)) × (r.total ≤ MOST_BYTES) };
 }
 
 impl Rows {
@@ -42,17 +43,18 @@ impl Rows {
         requires bytes { total_bytes files ≤ MOST_BYTES }
         ensures { IfOk result (λ rows. rows ≡ map closed_row files) }
     {
-        let mut list = Vec::with_capacity(alloc, files.len())?;
+        let mut map = PathMap::with_capacity(alloc, files.len())?;
         let mut total = 0;
         'files: for file in files.files() {
-            list.push(Row {
-                path: file.path().copied()?,
+            let count = map.len();
+            let doc = Doc {
                 saved: Some(held_bytes(alloc, file.bytes())?),
                 text: None,
-            })?;
+            };
+            map.insert(count, file.path().copied()?, doc)?;
             total += file.bytes().len();
         }
-        Ok(Rows { list, total })
+        Ok(Rows { map, total })
     }
 
     /// A copy, which shares the bytes and the texts.
@@ -60,19 +62,19 @@ impl Rows {
         ensures { IfOk result (λ rows. rows ≡ self.now) }
     {
         Ok(Rows {
-            list: copied_rows(alloc, self.list.as_slice())?,
+            map: copied_map(alloc, &self.map)?,
             total: self.total,
         })
     }
 
     /// The rows.
-    pub fn as_slice(&self) -> &[Row]
-        ensures rows { result.now ≡ self.now }
-        ensures ordered { AreRows self.now }
+    pub fn entries(&self) -> &[Entry<Doc>]
+        ensures entries { result.now ≡ self.now }
+        ensures rows { AreRows self.now }
         ensures count { length self.now ≤ MOST_FILES }
         ensures bytes { total_bytes (project_of self.now) ≤ MOST_BYTES }
     {
-        self.list.as_slice()
+        self.map.entries()
     }
 
     /// The bytes of all rows together.
@@ -85,22 +87,30 @@ impl Rows {
 
     /// The index of the path's row, or else the index at which it belongs.
     pub fn find(&self, path: &Name) -> Result<usize, usize>
-        ensures found { IfOk result (λ i. (r : Row) × IsRowAt path.now self.now i r) }
+        ensures found { IfOk result (IsEntryOf path.now self.now) }
         ensures absent { IfErr result (IsPlaceOf path.now self.now) }
-        ensures ordered { AreRows self.now }
+        ensures rows { AreRows self.now }
     {
-        self.list
-            .binary_search_by(|row| row.path.as_str().cmp(path.as_str()))
+        self.map.find(path.as_str())
+    }
+
+    /// What is kept in the row at `index`.
+    pub fn doc(&self, index: usize) -> &Doc
+        requires { index < length self.now }
+        ensures doc { option_map (λ r. r.1) (slice_get self.now index) ≡ Some result.now }
+        ensures small { size_of (present_of result.now) ≤ MOST_BYTES }
+    {
+        self.map.entries()[index].value()
     }
 
     /// The index of the path's row and its text, where it is open.
     pub fn find_open(&self, path: &Name) -> Option<(usize, &Text)>
-        ensures open { IfSome result (λ found. (r : Row) × IsRowAt path.now self.now found.0 r × (r.text ≡ Some found.1.now)) }
-        ensures none { IfNone result (has path.now (paths_of (reading (λ r. r.text) self.now)) ≡ false) }
-        ensures ordered { AreRows self.now }
+        ensures open { IfSome result (λ found. IsOpenAt path.now self.now found.0 found.1.now) }
+        ensures none { IfNone result (has path.now (paths_of (reading (λ d. d.text) self.now)) ≡ false) }
+        ensures rows { AreRows self.now }
     {
         match self.find(path) {
-            Ok(index) => match &self.list[index].text {
+            Ok(index) => match &self.doc(index).text {
                 Some(text) => Some((index, text.get())),
                 None => None,
             },
@@ -111,22 +121,22 @@ impl Rows {
     /// The bytes of all rows but that at `index`.
     pub fn others(&self, index: usize) -> usize
         requires { index < length self.now }
-        ensures sum { (r : Row) → slice_get self.now index ≡ Some r → result + size_of (present_of r) ≡ total_bytes (project_of self.now) }
+        ensures sum { (r : Row) → slice_get self.now index ≡ Some r → result + size_of (present_of r.1) ≡ total_bytes (project_of self.now) }
         ensures bound { result ≤ MOST_BYTES }
         ensures most { total_bytes (project_of self.now) ≤ MOST_BYTES }
     {
-        self.total - self.list[index].size()
+        self.total - self.doc(index).size()
     }
 
-    /// Puts a text at `index`, which is open then.
+    /// Puts a text in the row at `index`, which is open then.
     pub fn open(&mut self, index: usize, text: Boxed<Text>)
         requires within { index < length self.old }
-        requires fits { (r : Row) → slice_get self.old index ≡ Some r → total_bytes (project_of self.old) + length (encode_utf8_all text) ≤ MOST_BYTES + size_of (present_of r) }
-        ensures { (r : Row) → slice_get self.old index ≡ Some r → self.new ≡ slice_set self.old index (opened_row r text) }
+        requires fits { (r : Row) → slice_get self.old index ≡ Some r → total_bytes (project_of self.old) + length (encode_utf8_all text) ≤ MOST_BYTES + size_of (present_of r.1) }
+        ensures { (r : Row) → slice_get self.old index ≡ Some r → self.new ≡ set_value self.old index (opened_doc r.1 text) }
     {
-        let row = &mut self.list[index];
-        self.total = self.total - row.size() + text.get().as_str().len();
-        row.text = Some(text);
+        let doc = self.map.value_mut(index);
+        self.total = self.total - doc.size() + text.get().as_str().len();
+        doc.text = Some(text);
     }
 
     /// Adds an open row before that at `index`.
@@ -134,16 +144,15 @@ impl Rows {
         requires place { IsPlaceOf path.now self.old index }
         requires room { length self.old < MOST_FILES }
         requires fits { total_bytes (project_of self.old) + length (encode_utf8_all text) ≤ MOST_BYTES }
-        ensures ok { OnOk result (self.new ≡ insert self.old index (record { path = path.now; saved = None; text = Some text })) }
+        ensures ok { OnOk result (self.new ≡ insert self.old index (path.now, record { saved = None; text = Some text })) }
         ensures err { OnErr result (self.new ≡ self.old) }
     {
         let size = text.get().as_str().len();
-        let row = Row {
-            path: path.copied()?,
+        let doc = Doc {
             saved: None,
             text: Some(text),
         };
-        self.list.insert(index, row)?;
+        self.map.insert(index, path.copied()?, doc)?;
         self.total += size;
         Ok(())
     }
@@ -151,23 +160,24 @@ impl Rows {
     /// Puts the bytes as the saved ones of the row at `index`, which is open.
     pub fn save(&mut self, index: usize, bytes: Boxed<Items<u8>>)
         requires within { index < length self.old }
-        requires open { (r : Row) → slice_get self.old index ≡ Some r → IsSome r.text }
-        ensures { (r : Row) → slice_get self.old index ≡ Some r → self.new ≡ slice_set self.old index (saved_row r bytes) }
+        requires open { (r : Row) → slice_get self.old index ≡ Some r → IsSome r.1.text }
+        ensures { (r : Row) → slice_get self.old index ≡ Some r → self.new ≡ set_value self.old index (saved_doc r.1 bytes) }
     {
-        self.list[index].saved = Some(bytes);
+        let doc = self.map.value_mut(index);
+        doc.saved = Some(bytes);
     }
 
     /// Closes the row at `index`, which has saved bytes: these are the present ones then.
     pub fn close(&mut self, index: usize)
         requires within { index < length self.old }
-        requires saved { (r : Row) → slice_get self.old index ≡ Some r → IsSome r.saved }
-        requires fits { (r : Row) → slice_get self.old index ≡ Some r → total_bytes (project_of self.old) + size_of r.saved ≤ MOST_BYTES + size_of (present_of r) }
-        ensures { (r : Row) → slice_get self.old index ≡ Some r → self.new ≡ slice_set self.old index (record { path = r.path; saved = r.saved; text = None }) }
+        requires saved { (r : Row) → slice_get self.old index ≡ Some r → IsSome r.1.saved }
+        requires fits { (r : Row) → slice_get self.old index ≡ Some r → total_bytes (project_of self.old) + size_of r.1.saved ≤ MOST_BYTES + size_of (present_of r.1) }
+        ensures { (r : Row) → slice_get self.old index ≡ Some r → self.new ≡ set_value self.old index (closed_doc r.1.saved) }
     {
-        let row = &mut self.list[index];
-        let size = row.size();
-        row.text = None;
-        self.total = self.total - size + row.size();
+        let doc = self.map.value_mut(index);
+        let size = doc.size();
+        doc.text = None;
+        self.total = self.total - size + doc.size();
     }
 
     /// Takes the row at `index` out.
@@ -175,17 +185,19 @@ impl Rows {
         requires { index < length self.old }
         ensures { self.new ≡ remove self.old index }
     {
-        self.total -= self.list[index].size();
-        self.list.remove(index);
+        self.total -= self.doc(index).size();
+        self.map.remove(index);
     }
 }
 
-fn copied_rows(alloc: Global, rows: &[Row]) -> Result<Vec<Row>, NoMemory>
-    ensures { IfOk result (λ copy. copy.items ≡ rows.now) }
+/// A copy of the map.
+fn copied_map(alloc: Global, map: &PathMap<Doc>) -> Result<PathMap<Doc>, NoMemory>
+    ensures { IfOk result (λ copy. copy.entries ≡ map.now.entries) }
 {
-    let mut copy = Vec::with_capacity(alloc, rows.len())?;
-    'rows: for row in rows {
-        copy.push(row.copied()?)?;
+    let mut copy = PathMap::with_capacity(alloc, map.len())?;
+    'rows: for row in map.entries() {
+        let count = copy.len();
+        copy.insert(count, row.path().copied()?, row.value().copied()?)?;
     }
     Ok(copy)
 }

@@ -5,7 +5,7 @@ ghost use Rattle.lsp_docs.specs.Documents.{text_of};
 ghost use Rattle.srb_text.specs.Limits.{MOST_BYTES};
 
 use srb_terms::NoMemory;
-use srb_text::Text;
+use srb_text::{Text, TextFault};
 use std::alloc::{AllocError, Global};
 
 /// The text of these characters.
@@ -24,8 +24,9 @@ pub fn text_of(alloc: Global, bytes: &[u8]) -> Result<Text, NoMemory>
     requires { length bytes.now ≤ MOST_BYTES }
     ensures { IfOk result (λ text. text ≡ text_of bytes.now) }
 {
-    match std::str::from_utf8(bytes) {
-        Ok(text) => made(alloc, text),
-        Err(_) => made(alloc, ""),
+    match Text::from_bytes(alloc, bytes) {
+        Ok(text) => Ok(text),
+        Err(TextFault::NotUtf8 { .. }) => made(alloc, ""),
+        Err(TextFault::NoMemory) => Err(AllocError),
     }
 }

@@ -2,6 +2,7 @@ ghost use Rattle.std.specs.Prelude.{◌≡◌, ◌++◌, IfOk};
 ghost use Rattle.rb_tree.specs.declared.syntax.Node.{out-Node};
 ghost use Rattle.rb_outline.specs.Outlines as spec;
 
+use crate::blank::Blank;
 use rb_tree::syntax::{Binary, Jump, Modifier, Node, PlacedName, Sign, Test, Unary, Visibility};
 use srb_terms::{Name, NoMemory, NodeKind, ParamKind, Words};
 use std::alloc::Global;
@@ -186,11 +187,15 @@ pub fn marked(alloc: Global, mark: &str, name: &Name) -> Result<Words, NoMemory>
 }
 
 /// The words of a `rescue` clause.
-pub fn variable_words(alloc: Global, variable: &Option<PlacedName>) -> Result<Words, NoMemory>
+pub fn variable_words(
+    alloc: Global,
+    blank: &Blank,
+    variable: &Option<PlacedName>,
+) -> Result<Words, NoMemory>
     ensures { IfOk result (λ w. w ≡ spec.variable_words variable.now) }
 {
     match variable {
-        None => Words::from_str(alloc, ""),
+        None => blank.words(),
         Some(name) => marked(alloc, "=> ", &name.name),
     }
 }
@@ -211,7 +216,7 @@ fn def_words(
 }
 
 /// The words of a node.
-pub fn words_of(alloc: Global, node: &Node) -> Result<Words, NoMemory>
+pub fn words_of(alloc: Global, blank: &Blank, node: &Node) -> Result<Words, NoMemory>
     ensures { IfOk result (λ w. w ≡ spec.words_at (out-Node node.now)) }
 {
     match node {
@@ -255,6 +260,6 @@ pub fn words_of(alloc: Global, node: &Node) -> Result<Words, NoMemory>
         | Node::Case { .. }
         | Node::Begin { .. }
         | Node::Class { .. }
-        | Node::Module { .. } => Words::from_str(alloc, ""),
+        | Node::Module { .. } => blank.words(),
     }
 }

@@ -5,11 +5,7 @@
 //! arguments, arms, pieces of a string) is a flat list, in the order of the text. Brackets, separators and keywords are
 //! not kept, but where a node's kind or a field says that they stood.
 
-ghost use Rattle.std.specs.Prelude.{◌≡◌, IfOk};
-ghost use Rattle.rb_tree.specs.Trees.{span_of, span_of_node};
-
-use srb_terms::{Boxed, Items, Name, NoMemory, ParamKind, Span, Words};
-use std::alloc::Global;
+use srb_terms::{Boxed, Items, Name, ParamKind, Span, Words};
 use std::fmt;
 
 /// A tree of source. Copies share it.
@@ -507,8 +503,10 @@ impl fmt::Debug for Tree {
     }
 }
 
+// It is never inlined: the drop of a node would else hold a node on the stack for each part that it drops.
 impl Drop for Tree {
     #[cycle(drops)]
+    #[inline(never)]
     fn drop(self) {
         let Tree { node } = self;
         drop(node);
@@ -736,87 +734,6 @@ impl Drop for Node {
             | Node::Nil { span: _ }
             | Node::True { span: _ }
             | Node::False { span: _ } => {}
-        }
-    }
-}
-
-impl Tree {
-    /// The tree of a node. Without memory the node is dropped.
-    pub fn new(alloc: Global, node: Node) -> Result<Tree, NoMemory>
-        ensures { IfOk result (λ tree. tree.node ≡ node) }
-    {
-        Ok(Tree {
-            node: Boxed::new(alloc, node)?,
-        })
-    }
-
-    /// What this tree is.
-    pub fn get(&self) -> &Node
-        ensures { result.now ≡ self.now.node }
-    {
-        self.node.get()
-    }
-
-    /// A copy that shares the tree. It takes no memory, and fails only at 2^63 copies.
-    pub fn copied(&self) -> Result<Tree, NoMemory>
-        ensures { IfOk result (λ tree. tree ≡ self.now) }
-    {
-        Ok(Tree {
-            node: self.node.copied()?,
-        })
-    }
-
-    /// The place of this tree.
-    #[tactic(auto, unfolding(crate::specs::Trees::span_of))]
-    pub fn span(&self) -> Span
-        ensures { result ≡ span_of self.now }
-    {
-        self.get().span()
-    }
-}
-
-impl Node {
-    /// The place of the tree that is this.
-    #[tactic(auto, unfolding(crate::specs::Trees::span_of_node))]
-    pub fn span(&self) -> Span
-        ensures { result ≡ span_of_node self.now }
-    {
-        match self {
-            Node::Body { span, .. }
-            | Node::Modified { span, .. }
-            | Node::Jump { span, .. }
-            | Node::Assign { span, .. }
-            | Node::OperatorAssign { span, .. }
-            | Node::Command { span, .. }
-            | Node::Conditional { span, .. }
-            | Node::Binary { span, .. }
-            | Node::Unary { span, .. }
-            | Node::Post { span, .. }
-            | Node::Whole { span, .. }
-            | Node::Float { span, .. }
-            | Node::Text { span, .. }
-            | Node::Symbol { span, .. }
-            | Node::InstanceVariable { span, .. }
-            | Node::Constant { span, .. }
-            | Node::TopConstant { span, .. }
-            | Node::SelfWord { span }
-            | Node::Nil { span }
-            | Node::True { span }
-            | Node::False { span }
-            | Node::Name { span, .. }
-            | Node::Call { span, .. }
-            | Node::Yield { span, .. }
-            | Node::Super { span, .. }
-            | Node::Array { span, .. }
-            | Node::Hash { span, .. }
-            | Node::Parens { span, .. }
-            | Node::If { span, .. }
-            | Node::While { span, .. }
-            | Node::Case { span, .. }
-            | Node::Begin { span, .. }
-            | Node::Class { span, .. }
-            | Node::Module { span, .. }
-            | Node::Def { span, .. } => *span,
         }
     }
 }

@@ -6,7 +6,8 @@ use Rattle.std.specs.Cmp.Lexicographic.{nat_list_cmp_total, texts_ties}
 use Rattle.std.specs.declared.cmp.Ordering.{Ordering}
 use Rattle.std.specs.declared.cmp.Ordering.TheVariants.{Less, Equal, Greater}
 use Rattle.std.proofs.lemmas.Bool.{cond-false}
-use Rattle.srb_terms.specs.Projects.{bytes_at, path_cmp, put_file, IsBeforeAll, IsProject}
+use Rattle.srb_terms.specs.PathMaps.{path_cmp, IsBeforeAll}
+use Rattle.srb_terms.specs.Projects.{bytes_at, put_file, IsProject}
 use Rattle.srb_check.specs.Checks.{fresh_of}
 use Rattle.srb_check.specs.FactLists.{same_facts}
 use Rattle.srb_check.specs.Jobs.{facts_in}

@@ -5,6 +5,7 @@ use Rattle.srb_check.specs.Checks.{fresh}
 use Rattle.srb_check.specs.FactLists.{same_facts}
 use Rattle.srb_check.specs.Jobs.{IsJobOf, Known, facts_in}
 use Rattle.srb_check.specs.Symbols.{project_facts}
+use Rattle.srb_terms.specs.PathMaps.{IsEntryOf}
 use Rattle.srb_terms.specs.Projects.{IsProject, bytes_at}
 use Rattle.srb_terms.specs.declared.diag.Diag.{Diag}
 use Rattle.lsp_msg.specs.declared.id.Id.{Id}
@@ -24,7 +25,7 @@ use Rattle.lsp_docs.specs.Documents.Deed.{Edits}
 use Rattle.lsp_docs.specs.Uris.{is_empty}
 use Rattle.run_core.specs.Language.{Language}
 use Rattle.run_core.specs.Sessions.{Phase, Waiting, Serving, Closing}
-use Rattle.run_core.specs.Rows.{after_worked, lists_shown, marked, OwedAreAsked}
+use Rattle.run_core.specs.Rows.{PathRow, after_worked, lists_shown, marked, OwedAreAsked}
 use Rattle.run_core.specs.declared.mark.Mark.TheVariants.{Present, Todo, Owed, Edited}
 use Rattle.run_core.specs.declared.row.Row.{Row}
 use Rattle.run_core.specs.declared.fate.Fate.{Fate}
@@ -126,7 +127,7 @@ ended_by (End cause) = Some cause
 -- ---- how a core is kept
 
 -- the state of these documents, rows and marks of a core
-abbrev pub state_of : Documents → Phase → List Row → ℕ → Bool → Bool → Option Id → Option EndCause → State
+abbrev pub state_of : Documents → Phase → List PathRow → ℕ → Bool → Bool → Option Id → Option EndCause → State
 state_of documents phase rows epoch stale seen owing ended = record {
   session = record { phase = phase; documents = documents };
   epoch = epoch;
@@ -147,7 +148,7 @@ is_waiting Serving = false
 is_waiting Closing = false
 
 -- What always holds of a core.
-pub record IsCore (phase : Phase) (documents : Documents) (stale : Bool) (rows : List Row) (job : Known) : Type 0 where
+pub record IsCore (phase : Phase) (documents : Documents) (stale : Bool) (rows : List PathRow) (job : Known) : Type 0 where
   -- the rows know which files the project has
   pub paths : marked Present rows ≡ paths_of documents.project
   -- where nothing is stale each owed file is one to be worked on
@@ -158,7 +159,7 @@ pub record IsCore (phase : Phase) (documents : Documents) (stale : Bool) (rows :
   pub built : is_waiting phase ≡ false → stale ≡ false → IsJobOf documents.project job
 
 -- Of the project as it was at the last build this is known: it has the facts of the project as it is now, and the same bytes in each file that wasn't edited since.
-pub record IsOfBuild (documents : Documents) (rows : List Row) (last : Known) : Type 0 where
+pub record IsOfBuild (documents : Documents) (rows : List PathRow) (last : Known) : Type 0 where
   pub project : Project
   pub ordered : IsProject project
   pub known : IsJobOf project last
@@ -166,7 +167,7 @@ pub record IsOfBuild (documents : Documents) (rows : List Row) (last : Known) : 
   pub same : (f : Path) → IsFalse (has f (marked Edited rows)) → bytes_at f documents.project ≡ bytes_at f project
 
 -- What always holds of a core and of what it knows of its last build: after `initialize`, where nothing is stale, that is of the last build.
-pub record IsWholeCore (phase : Phase) (documents : Documents) (stale : Bool) (rows : List Row) (job last : Known) : Type 0 where
+pub record IsWholeCore (phase : Phase) (documents : Documents) (stale : Bool) (rows : List PathRow) (job last : Known) : Type 0 where
   pub core : IsCore phase documents stale rows job
   pub since : is_waiting phase ≡ false → stale ≡ false → IsOfBuild documents rows last
 
@@ -198,20 +199,14 @@ landed_by d f epoch list true = Shown (Work f epoch list true)
 landed_by d f epoch list false = Quiet (Work f epoch list false)
 
 -- This list was found in the file of a row of these rows: whether it is written, what lands, and the rows that are left.
-pub record WorksIn (documents : Documents) (epoch : ℕ) (row : Row) (list : List Diag) (rows left : List Row) (landed : Landed) : Type 0 where
+pub record WorksIn (documents : Documents) (epoch : ℕ) (row : PathRow) (list : List Diag) (rows left : List PathRow) (landed : Landed) : Type 0 where
   pub shown : Bool
-  pub due : IsDue row list shown
-  pub landed_is : landed ≡ landed_by documents row.path epoch list shown
-  pub left_is : left ≡ after_worked row.path (if shown then Some list else None) rows
-
--- the row at the index is that of the path
-pub record HasRowAt (rows : List Row) (index : ℕ) (f : Path) : Type 0 where
-  pub row : Row
-  pub at : slice_get rows index ≡ Some row
-  pub named : row.path ≡ f
+  pub due : IsDue row.1 list shown
+  pub landed_is : landed ≡ landed_by documents row.0 epoch list shown
+  pub left_is : left ≡ after_worked row.0 (if shown then Some list else None) rows
 
 -- what comes of errors of a file, by the rows, and by whether the inbox was looked at and the symbol table is stale
-abbrev pub IsFate : List Row → Path → (is_looked stale : Bool) → Fate → Type 0
+abbrev pub IsFate : List PathRow → Path → (is_looked stale : Bool) → Fate → Type 0
 IsFate rows f is_looked stale Drop = IsTrue (stale || not (has f (marked Todo rows)) || has f (marked Edited rows))
 IsFate rows f is_looked stale Wait =
     IsFalse (stale || not (has f (marked Todo rows)) || has f (marked Edited rows))
@@ -219,4 +214,4 @@ IsFate rows f is_looked stale Wait =
 IsFate rows f is_looked stale (WorkOn index) =
     IsFalse (stale || not (has f (marked Todo rows)) || has f (marked Edited rows))
     × IsFalse (not is_looked || (not (has f (marked Owed rows)) && not (is_empty (marked Owed rows))))
-    × HasRowAt rows index f
+    × IsEntryOf f rows index

@@ -1,10 +1,10 @@
 //! What lands where a file was checked, and what comes of errors of a file that others found.
 
 ghost use Rattle.std.specs.Prelude.{◌≡◌, ◌+◌, ◌-◌, ◌^◌, ◌<◌, ◌↔◌, ◌&&◌, ◌||◌, not, [], length, min, slice_get, unwrap_or, None, Some, IsTrue, IfOk, OnErr, OnOk, if◌then◌else◌};
+ghost use Rattle.srb_terms.specs.PathMaps.{IsEntryOf, IsOrdered};
 ghost use Rattle.lsp_docs.specs.Paths.{Path};
-ghost use Rattle.run_core.specs.Cores.{HasRowAt, IsDue, IsFate, WorksIn, landed_by};
-ghost use Rattle.run_core.specs.Rows.{IsOrdered};
-ghost use Rattle.run_core.specs.declared.row.Row.{Row};
+ghost use Rattle.run_core.specs.Cores.{IsDue, IsFate, WorksIn, landed_by};
+ghost use Rattle.run_core.specs.Rows.{PathRow};
 
 use crate::fate::Fate;
 use crate::landed::Landed;
@@ -114,14 +114,14 @@ pub fn work_in(
     epoch: u64,
     list: Items<Diag>,
 ) -> Result<Landed, NoMemory>
-    requires { index < length rows.old.list }
-    ensures works { IfOk result (λ landed. (row : Row) → slice_get rows.old.list index ≡ Some row → WorksIn docs.now epoch row list rows.old.list rows.new.list landed) }
-    ensures ordered { OnOk result (IsOrdered rows.old.list) }
+    requires { index < length rows.old.entries }
+    ensures works { IfOk result (λ landed. (row : PathRow) → slice_get rows.old.entries index ≡ Some row → WorksIn docs.now epoch row list rows.old.entries rows.new.entries landed) }
+    ensures ordered { OnOk result (IsOrdered rows.old.entries) }
     ensures err { OnErr result (rows.new ≡ rows.old) }
 {
     let row = rows.row(index);
-    let shown = is_due(row, list.as_slice());
-    let landed = landed_of(alloc, docs, &row.path, epoch, list.as_slice(), shown)?;
+    let shown = is_due(row.value(), list.as_slice());
+    let landed = landed_of(alloc, docs, row.path(), epoch, list.as_slice(), shown)?;
     rows.work(index, list_if(shown, list));
     Ok(landed)
 }
@@ -144,8 +144,8 @@ fn has_to_wait(row: &Row, is_looked: bool, owes: bool) -> bool
 /// where the table is stale, the file isn't to be worked on, or it was edited since the last build. Else they wait until the inbox was looked
 /// at, and until no other file is owed where this one isn't.
 pub fn fate_of(rows: &Rows, path: &Name, is_looked: bool, stale: bool) -> Fate
-    ensures fate { IsFate rows.now.list path.now is_looked stale result }
-    ensures ordered { IsOrdered rows.now.list }
+    ensures fate { IsFate rows.now.entries path.now is_looked stale result }
+    ensures ordered { IsOrdered rows.now.entries }
 {
     match rows.find(path) {
         Some(index) => fate_at(rows, index, is_looked, stale),
@@ -155,11 +155,11 @@ pub fn fate_of(rows: &Rows, path: &Name, is_looked: bool, stale: bool) -> Fate
 
 // The same of the file of the row at `index`.
 fn fate_at(rows: &Rows, index: usize, is_looked: bool, stale: bool) -> Fate
-    requires within { index < length rows.now.list }
-    requires ordered { IsOrdered rows.now.list }
-    ensures { (f : Path) → HasRowAt rows.now.list index f → IsFate rows.now.list f is_looked stale result }
+    requires within { index < length rows.now.entries }
+    requires ordered { IsOrdered rows.now.entries }
+    ensures { (f : Path) → IsEntryOf f rows.now.entries index → IsFate rows.now.entries f is_looked stale result }
 {
-    let row = rows.row(index);
+    let row = rows.row(index).value();
     if is_dropped(row, stale) {
         Fate::Drop
     } else if has_to_wait(row, is_looked, rows.owes()) {

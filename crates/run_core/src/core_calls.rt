@@ -61,9 +61,9 @@ impl Model for Core {
 
     ghost coded = { Prim.hlevel (codes, shared.the_row.coded) };
 
-    ghost view = { λ c. record { state = state_of c.docs c.phase c.rows.list c.epoch c.stale c.seen c.owing c.ended; job = c.last; own_checks = c.own_checks; idle = c.idle } };
+    ghost view = { λ c. record { state = state_of c.docs c.phase c.rows.entries c.epoch c.stale c.seen c.owing c.ended; job = c.last; own_checks = c.own_checks; idle = c.idle } };
 
-    ghost invariant = { λ c. IsWholeCore c.phase c.docs c.stale c.rows.list c.job c.last };
+    ghost invariant = { λ c. IsWholeCore c.phase c.docs c.stale c.rows.entries c.job c.last };
 }
 
 impl Core {
@@ -354,7 +354,7 @@ impl Core {
         }
         let index = next_row(&self.rows);
         if index < self.rows.as_slice().len() {
-            Some(&self.rows.row(index).path)
+            Some(self.rows.row(index).path())
         } else {
             None
         }
@@ -380,8 +380,8 @@ impl Core {
     {
         let index = next_row(&self.rows);
         let file = self.rows.row(index);
-        let owed = file.owed;
-        let list = self.job.get().check(alloc, &file.path, steps)?;
+        let owed = file.value().owed;
+        let list = self.job.get().check(alloc, file.path(), steps)?;
         let landed = work_in(alloc, &self.docs, &mut self.rows, index, self.epoch, list)?;
         self.seen = false;
         self.own_checks = with_check(owed, self.own_checks);

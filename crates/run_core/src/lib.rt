@@ -23,8 +23,6 @@ mod mark;
 mod phase;
 mod row;
 mod rows;
-#[cfg(test)]
-mod tests;
 
 pub use core_calls::Core;
 pub use landed::Landed;

@@ -1,10 +1,8 @@
-use srb_terms::{Diag, Items, Name};
+use srb_terms::{Diag, Items};
 
 /// What the core keeps of one path. Its marks are told by `Mark`.
 #[derive(Drop)]
 pub struct Row {
-    /// The path.
-    pub path: Name,
     /// Whether the project has a file there.
     pub present: bool,
     /// Whether the file is to be worked on.

@@ -17,14 +17,10 @@ mod entry;
 mod heard;
 mod inbox;
 mod inbox_pass;
-#[cfg(test)]
-mod inbox_tests;
 mod item;
 mod pass;
 mod results;
 mod rule;
-#[cfg(test)]
-mod tests;
 
 pub use inbox::Inbox;
 pub use inbox_pass::{PutPass, TakePass};

@@ -26,10 +26,10 @@ use std::thread;
 use std::thread::Threads;
 
 /// How often in a row the results may be found empty before a leader sleeps for a while after each time.
-const MOST_YIELDS: u32 = 64;
+const MOST_YIELDS: u32 = 4;
 
 /// How often in a row the results may be found empty before the inbox is looked at.
-const MOST_EMPTY_POLLS: u32 = 68;
+const MOST_EMPTY_POLLS: u32 = 8;
 
 /// How many items a leader takes at most.
 const MOST_ITEMS: u64 = 0xffff_ffff;

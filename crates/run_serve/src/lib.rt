@@ -16,10 +16,9 @@ mod reading;
 mod say;
 mod serve_end;
 mod serving;
-#[cfg(test)]
-mod tests;
 mod turning;
 
+pub use reading::read;
 pub use serve_end::ServeEnd;
 pub use serving::serve;
 pub use turning::{coordinate, turn};

@@ -1,43 +1,19 @@
 //! Files of a build land, wait, or are thrown away.
 
-ghost use Rattle.std.specs.Prelude.{◌≡◌, ◌<◌, ◌≤◌, length, IfOk};
-ghost use Rattle.lsp_docs.specs.Documents.{MOST_FILES};
-ghost use Rattle.lsp_docs.specs.Projects.{total_bytes};
+ghost use Rattle.std.specs.Prelude.{◌≡◌, ◌<◌, IfOk};
 ghost use Rattle.srb_check.specs.Found.{IsFoundIn};
-ghost use Rattle.srb_text.specs.Limits.{MOST_BYTES};
 
+use crate::projects::three_files;
 use lsp_msg::{Id, Msg, Out};
 use run_core::{Core, Landed};
 use run_queues::Item;
 use run_watch::{Inp, Step};
 use srb_check::Job;
-use srb_terms::{Boxed, Items, Name, NoMemory, Project, Steps, Words};
+use srb_terms::{Boxed, Items, NoMemory, Steps, Words};
 use std::alloc::Global;
 use std::marker::Brand;
 use std::process::Abort;
 use std::sync::ledger::{Blank, Ledger};
-
-/// A project of the files `a.rb`, `b.rb` and `c.rb`, each of which has this text.
-fn three_files(alloc: Global, text: &str) -> Result<Project, NoMemory>
-    requires { length text.now ≤ 1000 }
-    ensures count { IfOk result (λ p. length p ≤ MOST_FILES) }
-    ensures bytes { IfOk result (λ p. total_bytes p ≤ MOST_BYTES) }
-{
-    let mut files = Project::new(alloc);
-    files.put(
-        Name::from_str(alloc, "a.rb")?,
-        Vec::from_slice(alloc, text.as_bytes())?,
-    )?;
-    files.put(
-        Name::from_str(alloc, "b.rb")?,
-        Vec::from_slice(alloc, text.as_bytes())?,
-    )?;
-    files.put(
-        Name::from_str(alloc, "c.rb")?,
-        Vec::from_slice(alloc, text.as_bytes())?,
-    )?;
-    Ok(files)
-}
 
 /// The core takes this message.
 fn take(rt: &impl Abort, alloc: Global, core: &mut Core, message: Msg) -> Result<(), NoMemory>

@@ -13,8 +13,6 @@ mod letters;
 mod matching;
 mod messages;
 mod order;
-#[cfg(test)]
-mod tests;
 
 pub use args::{Arg, Args, CallEnd, GivenBlock, KeyArg, Recv};
 pub use calls::call;

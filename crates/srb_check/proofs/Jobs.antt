@@ -12,7 +12,8 @@ use Rattle.std.proofs.lemmas.Bool.{cases_lt}
 use Rattle.std.proofs.lemmas.List.{length-map, map-append}
 use Rattle.std.proofs.lemmas.Slice.Eq.{bytes_eq-Decides}
 use Rattle.std.proofs.lemmas.Option.{same_Some, slice_get-map, slice_get_past}
-use Rattle.srb_terms.specs.Projects.{File, IsBeforeAll, IsProject, bytes_at, path_cmp}
+use Rattle.srb_terms.specs.PathMaps.{IsBeforeAll, path_cmp}
+use Rattle.srb_terms.specs.Projects.{File, IsProject, bytes_at}
 use Rattle.srb_terms.specs.declared.fact.Fact.{Fact}
 use Rattle.srb_terms.specs.declared.world.World.{World}
 use Rattle.srb_builtin.specs.Table.{built_in}
@@ -83,6 +84,21 @@ found_at path (file ∷ project) (suc i) ordered within same =
     let before : path_cmp file.0 (path_at project i path) ≡ Less = before_at file.0 project i path ordered.0 (omega (arith, within)) in
     let less : path_cmp file.0 path ≡ Less = subst (λ p. path_cmp file.0 p ≡ Less) (same_path (path_at project i path) path same) before in
     found_at path project i ordered.1 (omega (arith, within)) same ∙ sym (chosen path file project false (bytes_eq-turned path file.0 Less less))
+
+cmp_same : (p : List ℕ) → path_cmp p p ≡ Equal
+cmp_same p = equal (path_cmp p p) (sym (texts_ties p p) ∙ (bytes_eq-Decides p p).1 refl)
+  where
+    equal : (o : Ordering) → is_eq o ≡ true → o ≡ Equal
+    equal Less is = absurd cc
+    equal Equal is = refl
+    equal Greater is = absurd cc
+
+-- a path that stands at an index tells its bytes
+pub index_tells : (path : List ℕ) (project : List File) (paths : List (List ℕ)) (i : ℕ) → IsProject project → paths ≡ map path_of_file project
+    → i < length paths → path ≡ get_or paths i path → option_map bytes_of_file (slice_get project i) ≡ bytes_at path project
+index_tells path project paths i ordered are within here =
+    found_at path project i ordered (subst (λ ps. i < length ps) are within)
+    (ap (λ p. path_cmp p path) (sym (here ∙ ap (λ ps. get_or ps i path) are)) ∙ cmp_same path)
 
 lower : (path p q : List ℕ) (o : Ordering) → path_cmp p q ≡ Less → path_cmp q path ≡ o → ordering_index (path_cmp p path) ≤ ordering_index o
 lower path p q Less less is =

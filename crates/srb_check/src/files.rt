@@ -55,7 +55,7 @@ impl Files {
     ) -> Result<(), NoMemory>
         ensures { (project : List File) → AreLoaded project self.old → OnOk result (AreLoaded (project ++ (path, bytes.now) ∷ []) self.new) }
     {
-        let record = before.load(alloc, &path, bytes)?;
+        let record = before.load(alloc, &path, self.paths.len(), bytes)?;
         self.add_record(path, record)
     }
 
@@ -76,7 +76,7 @@ impl Files {
         ensures { (project : List File) (bytes : List ℕ) → AreLoaded project self.old → IsJobWith path bytes before.now
             → OnOk result (AreLoaded (project ++ (path, bytes) ∷ []) self.new) }
     {
-        let record = before.kept(&path)?;
+        let record = before.kept(&path, self.paths.len())?;
         self.add_record(path, record)
     }
 

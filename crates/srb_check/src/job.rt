@@ -84,21 +84,22 @@ impl Job {
         ensures { IfOk result (λ r. r ≡ option_map loaded (option_copied bytes.entry)) }
     {
         match bytes {
-            Some(bytes) => Ok(Some(self.load(alloc, path, bytes)?)),
+            Some(bytes) => Ok(Some(self.load(alloc, path, self.paths.len(), bytes)?)),
             None => Ok(None),
         }
     }
 
-    /// The record of the file of these bytes at a path, shared where the job has it.
+    /// The record of the file of these bytes at a path, shared where the job has it. The path is looked for at the index `near` first.
     pub(crate) fn load(
         &self,
         alloc: Global,
         path: &Name,
+        near: usize,
         bytes: &[u8],
     ) -> Result<Boxed<FileRec>, NoMemory>
         ensures { IfOk result (λ r. r ≡ loaded bytes.now) }
     {
-        match self.record(path, bytes) {
+        match self.record(path, near, bytes) {
             Some(record) => record.copied(),
             None => Boxed::new(alloc, load(alloc, bytes)?),
         }
@@ -154,10 +155,12 @@ impl Job {
     }
 
     /// The record of a file of these bytes, where the file at the path has them.
-    fn record(&self, path: &Name, bytes: &[u8]) -> Option<&Boxed<FileRec>>
+    fn record(&self, path: &Name, near: usize, bytes: &[u8]) -> Option<&Boxed<FileRec>>
         ensures { IfSome result (λ r. r.now ≡ loaded bytes.now) }
     {
-        let record = self.records.get(place(self.paths.as_slice(), path))?;
+        let record = self
+            .records
+            .get(place_near(self.paths.as_slice(), path, near))?;
         if has_bytes(record.get(), bytes) {
             Some(record)
         } else {
@@ -165,12 +168,15 @@ impl Job {
         }
     }
 
-    /// The record of the file at a path that the job has.
-    pub(crate) fn kept(&self, path: &Name) -> Result<Boxed<FileRec>, NoMemory>
+    /// The record of the file at a path that the job has. The path is looked for at the index `near` first.
+    pub(crate) fn kept(&self, path: &Name, near: usize) -> Result<Boxed<FileRec>, NoMemory>
         requires { (bytes : List ℕ) × IsJobWith path.now bytes self.now }
         ensures { (bytes : List ℕ) → IsJobWith path.now bytes self.now → IfOk result (λ r. r ≡ loaded bytes) }
     {
-        match self.records.get(place(self.paths.as_slice(), path)) {
+        match self
+            .records
+            .get(place_near(self.paths.as_slice(), path, near))
+        {
             Some(record) => record.copied(),
             None => unreachable!(),
         }
@@ -183,6 +189,22 @@ fn place(paths: &[Name], path: &Name) -> usize
 {
     let found = paths.binary_search_by(|other| other.as_str().cmp(path.as_str()));
     found.unwrap_or(paths.len())
+}
+
+/// The same index, which is `near` for most files of two projects that few edits part.
+fn place_near(paths: &[Name], path: &Name, near: usize) -> usize
+    ensures { (project : List File) → IsProject project → paths.now ≡ map path_of_file project → option_map bytes_of_file (slice_get project result) ≡ bytes_at path.now project }
+{
+    match paths.get(near) {
+        Some(other) => {
+            if other.is_same(path) {
+                near
+            } else {
+                place(paths, path)
+            }
+        }
+        None => place(paths, path),
+    }
 }
 
 /// Whether a record has a text of these bytes.

@@ -15,8 +15,6 @@
 #![tactic(auto)]
 
 mod arranged;
-#[cfg(test)]
-mod arranged_tests;
 mod characters;
 mod checking;
 mod errors;
@@ -27,12 +25,8 @@ mod job;
 pub mod laws;
 mod loading;
 mod place;
-#[cfg(test)]
-mod project_tests;
 mod reading;
 mod report;
-#[cfg(test)]
-mod tests;
 
 pub use checking::check_file;
 pub use file::FileRec;

@@ -2,6 +2,7 @@ pub mod CharacterPlaces
 pub mod TokenPlaces
 pub mod HeadPlaces
 pub mod SymbolPlaces
+pub mod ArrangedExamples
 pub mod ArrangedPlaces
 pub mod ErrorPlaces
 pub mod SameFacts

@@ -1,3 +1,4 @@
+pub mod ArrangedExamples
 pub mod Loaded
 pub mod LoadedExamples
 pub mod Placed

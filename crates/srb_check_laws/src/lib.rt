@@ -5,6 +5,7 @@
 ghost use Rattle.std.specs.Prelude.{ℕ, List};
 ghost use Rattle.srb_terms.specs.declared.fact.Fact.{Fact};
 ghost use Rattle.srb_check.specs.Checks.{errors_of};
+ghost use Rattle.srb_check_laws.specs.ArrangedExamples.{EachHasItsPlace, EachIsKeptOnce};
 ghost use Rattle.srb_check_laws.specs.Loaded.{LoadedIsKept};
 ghost use Rattle.srb_check_laws.specs.LoadedExamples.{BracketIsASyntaxError, ByteIsNoText, GlobalIsOutsideTheProfile, IgnoredHasNone, LastIsDeeper};
 ghost use Rattle.srb_check_laws.specs.Placed.{AreAtPlaces, ErrorsStandAtTokens, ErrorsStandInTrees, FilesErrInTrees, NodesStandInTrees, TypeErrorsStandAtNodes};
@@ -25,6 +26,12 @@ pub fn examples_are_kept()
     ensures deep { LastIsDeeper }
     ensures byte { ByteIsNoText }
     ensures ignored { IgnoredHasNone }
+{}
+
+/// An error that is found twice stands in a report once, and errors go by their start, then by their end, number and text.
+pub fn errors_are_arranged()
+    ensures once { EachIsKeptOnce }
+    ensures places { EachHasItsPlace }
 {}
 
 /// Under any facts each error of a file starts and ends at the file's start, or else where a character of UTF-8 starts or the file ends, and it

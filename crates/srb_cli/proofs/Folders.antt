@@ -10,8 +10,9 @@ use Rattle.std.specs.declared.cmp.Ordering.TheVariants.{Less}
 use Rattle.std.proofs.lemmas.List.{length-map}
 use Rattle.std.proofs.lemmas.List.Sums.{sum_by-append}
 use Rattle.srb_io.specs.Files.{FolderFile, IsBeforeEach, AreInOrder, AreListed}
-use Rattle.srb_terms.specs.Projects.{IsBeforeAll, IsAfterAll, IsProject, path_cmp, put_file}
-use Rattle.srb_terms.proofs.ProjectOrder.{put_file-after}
+use Rattle.srb_terms.specs.PathMaps.{IsBeforeAll, IsAfterAll, path_cmp}
+use Rattle.srb_terms.specs.Projects.{IsProject, put_file}
+use Rattle.srb_terms.proofs.PathOrder.{put_value-after}
 use Rattle.lsp_docs.specs.Projects.{paths_of, total_bytes}
 use Rattle.srb_terms.specs.declared.cause.Cause.{Cause}
 use Rattle.srb_terms.specs.declared.cause.Cause.TheVariants.{Done, Errors, NoShutdown, Usage, ReadFault, WriteFault, Broken, TooLong, TooMany, TooBig, NoMemory}
@@ -45,7 +46,7 @@ append_none (file ∷ files) = ap (λ rest. file ∷ rest) (append_none files)
 pub put_at_end : (path bytes : List ℕ) (files : List FolderFile) (later : List (List ℕ)) → AreInOrder (paths_of files ++ path ∷ later)
     → put_file path bytes files ≡ files ++ (path, bytes) ∷ []
 put_at_end path bytes files later ordered =
-    ap (put_file path bytes) (sym (append_none files)) ∙ put_file-after path bytes files [] (after_all path files later ordered)
+    ap (put_file path bytes) (sym (append_none files)) ∙ put_value-after path bytes files [] (after_all path files later ordered)
 
 pub paths_of-append : (xs ys : List FolderFile) → paths_of (xs ++ ys) ≡ paths_of xs ++ paths_of ys
 paths_of-append [] ys = refl

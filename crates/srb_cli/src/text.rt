@@ -3,7 +3,7 @@ ghost use Rattle.srb_cli.specs.Ends.{EndsText, IsTooBig, text_report};
 
 use crate::report::{report, write_report};
 use srb_io::{ReadAllEnd, Sink, Source, read_all};
-use srb_terms::{Cause, Name, ProjectFile};
+use srb_terms::{Cause, Items, Name, ProjectFile};
 use srb_text::BYTES_LIMIT;
 use std::alloc::{AllocError, Global};
 
@@ -15,7 +15,7 @@ fn text_report(alloc: Global, bytes: Vec<u8>) -> Result<Vec<u8>, AllocError>
     ensures { IfOk result (λ r. r.items ≡ text_report bytes.items) }
 {
     let path = Name::from_str(alloc, TEXT_PATH)?;
-    report(alloc, &[ProjectFile::new(path, bytes)])
+    report(alloc, &[ProjectFile::new(path, Items::from_vec(bytes))])
 }
 
 /// The cause where the input is larger than the limit.

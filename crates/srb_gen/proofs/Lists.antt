@@ -3,7 +3,8 @@ use Rattle.std.proofs.Common.{◌≡◌, ℕ, ◌+◌, Bool, true, false, List, 
 use Rattle.std.specs.Prelude.{Option, Some, None, if◌then◌else◌, ◌||◌, bytes_eq, is_some, sum_by}
 use Rattle.std.proofs.lemmas.Bool.{or_parts, both_ways, false_from_ne_true, cond-true, cond-false}
 use Rattle.std.proofs.lemmas.List.Sums.{sum_by-cons}
-use Rattle.srb_terms.specs.Projects.{File, IsProject, IsBeforeAll, bytes_at}
+use Rattle.srb_terms.specs.PathMaps.{IsBeforeAll}
+use Rattle.srb_terms.specs.Projects.{File, IsProject, bytes_at}
 use Rattle.srb_terms.specs.declared.diag.Diag.{Diag}
 use Rattle.run_watch.specs.declared.step.Step.{Step}
 use Rattle.run_watch.specs.declared.step.Step.TheVariants.{Take, Look, Build, Work, Dropped, Idle}

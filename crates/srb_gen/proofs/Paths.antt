@@ -5,7 +5,7 @@ use Rattle.std.specs.Ordering.{nat_cmp, ordering_then}
 use Rattle.std.specs.declared.cmp.Ordering.{Ordering}
 use Rattle.std.specs.declared.cmp.Ordering.TheVariants.{Equal, Greater}
 use Rattle.std.proofs.lemmas.Bool.{cases_lt}
-use Rattle.srb_terms.specs.Projects.{path_cmp}
+use Rattle.srb_terms.specs.PathMaps.{path_cmp}
 use Rattle.srb_gen.specs.Texts.{file_path}
 
 -- a greater digit decides, and an equal one leaves it to the digits after it

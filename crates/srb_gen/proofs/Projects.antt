@@ -2,8 +2,9 @@
 use Rattle.std.proofs.Common.{◌≡◌, ℕ, zero, suc, ◌+◌, ◌*◌, ◌<◌, ◌≤◌, List, [], ◌∷◌, ◌++◌, length, refl, sym, ap, ◌∙◌, subst, append-nil, length-append, add-one, arith}
 use Rattle.std.specs.Prelude.{codes, ◌==◌, ◌-◌, Bool, true, false, if◌then◌else◌}
 use Rattle.std.proofs.lemmas.List.Sums.{sum_by-append}
-use Rattle.srb_terms.specs.Projects.{File, path_cmp, put_file, IsAfterAll, IsProject}
-use Rattle.srb_terms.proofs.ProjectOrder.{put_file-after, IsProject-put_file}
+use Rattle.srb_terms.specs.PathMaps.{path_cmp, IsAfterAll}
+use Rattle.srb_terms.specs.Projects.{File, put_file, IsProject}
+use Rattle.srb_terms.proofs.PathOrder.{put_value-after, IsOrdered-put_value}
 use Rattle.std.specs.declared.cmp.Ordering.TheVariants.{Greater}
 use Rattle.lsp_docs.specs.Projects.{total_bytes}
 use Rattle.srb_gen.specs.Texts.{file_path, class_name, file_text, first_expression, first_text}
@@ -24,7 +25,7 @@ after_all i (suc j) le small =
 pub one_more_file : (i : ℕ) → i < 10000 → put_file (file_path i) (first_text i) (generated_project i) ≡ generated_project (i + 1)
 one_more_file i small =
     ap (put_file (file_path i) (first_text i)) (sym (append-nil (generated_project i)))
-    ∙ put_file-after (file_path i) (first_text i) (generated_project i) [] (after_all i i (omega arith) small)
+    ∙ put_value-after (file_path i) (first_text i) (generated_project i) [] (after_all i i (omega arith) small)
     ∙ ap generated_project (sym (add-one i))
 
 -- the files stand in order
@@ -34,7 +35,7 @@ ordered_generated (suc i) few =
     let small : i < 10000 = omega arith in
     let before : i ≤ 10000 = omega arith in
     subst IsProject (one_more_file i small ∙ ap generated_project (add-one i))
-    (IsProject-put_file (file_path i) (first_text i) (generated_project i) (ordered_generated i before))
+    (IsOrdered-put_value (file_path i) (first_text i) (generated_project i) (ordered_generated i before))
 
 -- ---- the size
 

@@ -117,7 +117,8 @@ fn regrown(alloc: Global, rows: &Rows) -> Result<Rows, NoMemory>
     ensures rows { IfOk result (λ r. seen_rows r.entries ≡ grown [] (flat_map alone (seen_rows rows.now.entries))) }
     ensures unique { IsUnique bytes_eq rows.now }
 {
-    let mut all = IndexMap::new(alloc);
+    let empty = IndexMap::with_capacity(alloc, rows.len())?;
+    let mut all = empty;
     'rows: for index in 0..rows.len() {
         all = put_copy(rows, index, all)?;
     }
@@ -161,7 +162,8 @@ fn joined_all<L: Language>(
     ensures rows { IfOk result (λ r. seen_rows r.entries ≡ grown [] (flat_map (joining (L.the language.now) (seen_rows others.now.entries)) (seen_rows rows.now.entries))) }
     ensures unique { IsUnique bytes_eq rows.now }
 {
-    let mut all = IndexMap::new(alloc);
+    let empty = IndexMap::with_capacity(alloc, rows.len())?;
+    let mut all = empty;
     'rows: for index in 0..rows.len() {
         all = put_joined(alloc, language, rows, index, others, all)?;
     }

@@ -1,6 +1,9 @@
-//! What the symbol crates make of short programs, by way of the lexer and the parser: tests alone, above the crates that they try.
+//! What the symbol crates make of short programs, by way of the lexer and the parser, and what calls answer in small tables: tests alone, above
+//! the crates that they try.
 #![tactic(auto)]
 
+#[cfg(test)]
+mod calls;
 #[cfg(test)]
 mod facts;
 #[cfg(test)]

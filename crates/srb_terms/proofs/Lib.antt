@@ -1,2 +1,2 @@
-pub mod ProjectOrder
+pub mod PathOrder
 pub mod WorldNames

@@ -1,3 +1,4 @@
+pub mod ClassMeets
 pub mod Placing
 pub mod Filtering
 pub mod Meeting

@@ -5,9 +5,9 @@ ghost use Rattle.srb_shapes.specs.Lineages.{lineage_at};
 ghost use Rattle.srb_terms.specs.declared.ty.Ty.TheVariants as ty;
 ghost use Rattle.srb_types.specs.Normal as spec;
 
-use crate::names::{meet_names, names_of};
+use crate::names::{meet_classes, meet_names, names_of};
 use crate::parts::{add_part, is_untyped, lies_in, of_parts, parts};
-use srb_terms::{Boxed, NoMemory, Ty, World};
+use srb_terms::{Boxed, Name, NoMemory, Ty, World};
 use std::alloc::Global;
 
 // The part that lies in the other one.
@@ -24,9 +24,9 @@ fn inner_part(w: &World, p: &Ty, q: &Ty) -> Result<Option<Ty>, NoMemory>
     }
 }
 
-// The meet of a part that is no array and no hash with another part.
+// The meet of a part that is no array and no hash with another part, by their names.
 #[tactic(auto, unfolding(crate::specs::Normal::meet_plain))]
-fn meet_plain(alloc: Global, w: &World, p: &Ty, q: &Ty) -> Result<Option<Ty>, NoMemory>
+fn meet_named(alloc: Global, w: &World, p: &Ty, q: &Ty) -> Result<Option<Ty>, NoMemory>
     ensures { IfOk result (λ t. t ≡ spec.meet_plain (lineage_at w.now) p.now q.now) }
 {
     match names_of(alloc, p)? {
@@ -35,6 +35,28 @@ fn meet_plain(alloc: Global, w: &World, p: &Ty, q: &Ty) -> Result<Option<Ty>, No
             None => inner_part(w, p, q),
             Some(more) => meet_names(alloc, w, names, more.as_slice()),
         },
+    }
+}
+
+// The meet of a class or module with another part.
+#[tactic(auto, unfolding(crate::specs::Normal::meet_plain, crate::specs::Normal::names_of))]
+fn meet_class(alloc: Global, w: &World, p: &Ty, c: &Name, q: &Ty) -> Result<Option<Ty>, NoMemory>
+    requires { p.now ≡ ty.Class c.now }
+    ensures { IfOk result (λ t. t ≡ spec.meet_plain (lineage_at w.now) p.now q.now) }
+{
+    match q {
+        Ty::Class(d) => meet_classes(alloc, w, c, d),
+        _ => meet_named(alloc, w, p, q),
+    }
+}
+
+// The meet of a part that is no array and no hash with another part. That of two classes makes no lists of names.
+fn meet_plain(alloc: Global, w: &World, p: &Ty, q: &Ty) -> Result<Option<Ty>, NoMemory>
+    ensures { IfOk result (λ t. t ≡ spec.meet_plain (lineage_at w.now) p.now q.now) }
+{
+    match p {
+        Ty::Class(c) => meet_class(alloc, w, p, c, q),
+        _ => meet_named(alloc, w, p, q),
     }
 }
 

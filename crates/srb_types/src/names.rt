@@ -53,8 +53,8 @@ pub(crate) fn names_of(alloc: Global, t: &Ty) -> Result<Option<Items<Name>>, NoM
     }
 }
 
-// Whether the second name stands in the linearization of the first one.
-fn is_under(w: &World, c: &Name, d: &Name) -> bool
+/// Whether the second name stands in the linearization of the first one.
+pub(crate) fn is_under(w: &World, c: &Name, d: &Name) -> bool
     ensures { result ≡ spec.is_under (lineage_at w.now) c.now d.now }
 {
     match w.lin(c) {
@@ -221,4 +221,27 @@ pub(crate) fn meet_names(
     } else {
         Ok(Some(of_names(alloc, all.as_slice())?))
     }
+}
+
+/// The meet of two classes or modules: the one that lies in the other, nothing of two classes, and else their intersection.
+#[tactic(auto, using(crate::proofs::ClassMeets::inner_class, crate::proofs::ClassMeets::outer_class, crate::proofs::ClassMeets::two_classes))]
+pub(crate) fn meet_classes(
+    alloc: Global,
+    w: &World,
+    c: &Name,
+    d: &Name,
+) -> Result<Option<Ty>, NoMemory>
+    ensures { IfOk result (λ t. t ≡ spec.meet_names (lineage_at w.now) (c.now ∷ []) (d.now ∷ [])) }
+{
+    if is_under(w, c, d) {
+        return Ok(Some(Ty::Class(c.copied()?)));
+    }
+    if is_under(w, d, c) {
+        return Ok(Some(Ty::Class(d.copied()?)));
+    }
+    if is_class(w, c) && is_class(w, d) {
+        return Ok(None);
+    }
+    let more = one(alloc, d)?;
+    meet_names(alloc, w, one(alloc, c)?, more.as_slice())
 }

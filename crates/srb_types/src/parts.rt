@@ -5,14 +5,16 @@ ghost use Rattle.std.specs.List.{filter, list_any};
 ghost use Rattle.srb_shapes.specs.Comparing as comparing;
 ghost use Rattle.srb_shapes.specs.Lineages.{lineage_at};
 ghost use Rattle.srb_shapes.specs.Parts as spec;
+ghost use Rattle.srb_terms.specs.declared.ty.Ty.TheVariants as ty;
 ghost use Rattle.srb_types.specs.Normal as normal;
 ghost use Rattle.srb_types.specs.Order.{is_before, placed};
 ghost use Rattle.srb_types.specs.Shown.{shown};
 
+use crate::names::is_under;
 use crate::order::is_before;
 use crate::showing::show;
 use srb_shapes::is_within;
-use srb_terms::{Boxed, Items, NoMemory, Ty, Words, World};
+use srb_terms::{Boxed, Items, Name, Names, NoMemory, Ty, Words, World};
 use std::alloc::Global;
 use std::slice;
 
@@ -49,22 +51,25 @@ pub(crate) fn of_parts(alloc: Global, parts: Vec<Ty>) -> Result<Ty, NoMemory>
     }
 }
 
-/// Copies of parts.
-pub(crate) fn copied(alloc: Global, parts: &[Ty]) -> Result<Vec<Ty>, NoMemory>
-    ensures { IfOk result (λ ts. ts.items ≡ parts.now) }
-{
-    let mut copies = Vec::with_capacity(alloc, parts.len())?;
-    'parts: for part in parts {
-        copies.push(part.copied()?)?;
-    }
-    Ok(copies)
-}
-
 /// Whether all that belongs to a part belongs to another one.
 pub(crate) fn lies_in(w: &World, p: &Ty, q: &Ty) -> bool
     ensures { result ≡ comparing.lies_in (lineage_at w.now) p.now q.now }
 {
-    is_within(true, w, p, q)
+    match q {
+        Ty::Class(d) => lies_in_class(w, p, q, d),
+        _ => is_within(true, w, p, q),
+    }
+}
+
+// The same for a class or module `q`. Whether a class lies in it is one look-up.
+fn lies_in_class(w: &World, p: &Ty, q: &Ty, d: &Name) -> bool
+    requires { q.now ≡ ty.Class d.now }
+    ensures { result ≡ comparing.lies_in (lineage_at w.now) p.now q.now }
+{
+    match p {
+        Ty::Class(c) => is_under(w, c, d),
+        _ => is_within(true, w, p, q),
+    }
 }
 
 /// Whether a type is a subtype of another.
@@ -74,8 +79,34 @@ pub(crate) fn is_sub(w: &World, t: &Ty, u: &Ty) -> bool
     is_within(false, w, t, u)
 }
 
-/// Whether a part lies in one of others.
-pub(crate) fn lies_in_one(w: &World, p: &Ty, parts: &[Ty]) -> bool
+// Whether a class lies in a part, by its linearization.
+fn is_class_in(w: &World, p: &Ty, c: &Name, names: &Names, q: &Ty) -> bool
+    requires class { p.now ≡ ty.Class c.now }
+    requires names { names.now ≡ (lineage_at w.now).lin c.now }
+    ensures { result ≡ comparing.lies_in (lineage_at w.now) p.now q.now }
+{
+    match q {
+        Ty::Class(d) => names.contains(d),
+        _ => is_within(true, w, p, q),
+    }
+}
+
+// Whether a class lies in one of some parts, by its linearization.
+fn is_class_in_one(w: &World, p: &Ty, c: &Name, names: &Names, parts: &[Ty]) -> bool
+    requires class { p.now ≡ ty.Class c.now }
+    requires names { names.now ≡ (lineage_at w.now).lin c.now }
+    ensures { result ≡ list_any (λ q. comparing.lies_in (lineage_at w.now) p.now q) parts.now }
+{
+    'parts: for part in parts {
+        if is_class_in(w, p, c, names, part) {
+            return true;
+        }
+    }
+    false
+}
+
+// Whether a part lies in one of others, each pair compared by itself.
+fn is_in_one(w: &World, p: &Ty, parts: &[Ty]) -> bool
     ensures { result ≡ list_any (λ q. comparing.lies_in (lineage_at w.now) p.now q) parts.now }
 {
     'parts: for part in parts {
@@ -84,6 +115,19 @@ pub(crate) fn lies_in_one(w: &World, p: &Ty, parts: &[Ty]) -> bool
         }
     }
     false
+}
+
+/// Whether a part lies in one of others. The linearization of a class is looked up once.
+pub(crate) fn lies_in_one(w: &World, p: &Ty, parts: &[Ty]) -> bool
+    ensures { result ≡ list_any (λ q. comparing.lies_in (lineage_at w.now) p.now q) parts.now }
+{
+    match p {
+        Ty::Class(c) => match w.lin(c) {
+            None => is_class_in_one(w, p, c, &Names::new(), parts),
+            Some(names) => is_class_in_one(w, p, c, names, parts),
+        },
+        _ => is_in_one(w, p, parts),
+    }
 }
 
 // Whether one of others lies in a part.
@@ -108,11 +152,16 @@ pub(crate) fn push_if(keep: bool, parts: &mut Vec<Ty>, part: &Ty) -> Result<(), 
     Ok(())
 }
 
-// The parts that don't lie in this one.
-fn outer_parts(alloc: Global, w: &World, p: &Ty, parts: &[Ty]) -> Result<Vec<Ty>, NoMemory>
+/// Copies of the parts that don't lie in this one, with room for it.
+pub(crate) fn outer_parts(
+    alloc: Global,
+    w: &World,
+    p: &Ty,
+    parts: &[Ty],
+) -> Result<Vec<Ty>, NoMemory>
     ensures { IfOk result (λ ts. ts.items ≡ filter (λ q. not (comparing.lies_in (lineage_at w.now) q p.now)) parts.now) }
 {
-    let mut rest = Vec::new(alloc);
+    let mut rest = Vec::with_capacity(alloc, parts.len().saturating_add(1))?;
     'parts: for part in parts {
         push_if(!lies_in(w, part, p), &mut rest, part)?;
     }
@@ -130,11 +179,17 @@ fn drop_inner(alloc: Global, w: &World, p: &Ty, parts: &mut Vec<Ty>) -> Result<(
 }
 
 // Whether a text stands before that of a part. A class is compared without making a text.
+#[tactic(auto, unfolding(crate::specs::Shown::shown))]
 fn is_before_part(alloc: Global, t: &Words, part: &Ty) -> Result<bool, NoMemory>
     ensures { IfOk result (λ b. b ≡ is_before t.now (shown part.now)) }
 {
-    let text = show(alloc, part)?;
-    Ok(is_before(t.as_str(), text.as_str()))
+    match part {
+        Ty::Class(name) => Ok(is_before(t.as_str(), name.as_str())),
+        _ => {
+            let text = show(alloc, part)?;
+            Ok(is_before(t.as_str(), text.as_str()))
+        }
+    }
 }
 
 // The index at which a part with this text belongs: that after the last part whose text doesn't come after its own.
@@ -152,8 +207,8 @@ fn place(alloc: Global, p: &Ty, t: &Words, parts: &[Ty]) -> Result<usize, NoMemo
     Ok(0)
 }
 
-// Puts a part at its place.
-fn put(alloc: Global, p: &Ty, parts: &mut Vec<Ty>) -> Result<(), NoMemory>
+/// Puts a part at its place.
+pub(crate) fn put(alloc: Global, p: &Ty, parts: &mut Vec<Ty>) -> Result<(), NoMemory>
     ensures { OnOk result (parts.new.items ≡ placed shown p.now parts.old.items) }
 {
     let text = show(alloc, p)?;

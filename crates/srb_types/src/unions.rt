@@ -1,26 +1,44 @@
 //! Unions, and what is left of them.
 
-ghost use Rattle.std.specs.Prelude.{◌≡◌, not, IfOk};
-ghost use Rattle.std.specs.List.{filter, list_all, list_any};
+ghost use Rattle.std.specs.Prelude.{◌≡◌, ◌∷◌, false, not, IfOk, MatchOption};
+ghost use Rattle.std.specs.List.{filter, list_any};
 ghost use Rattle.srb_shapes.specs.Comparing.{is_sub_of, lies_in};
 ghost use Rattle.srb_shapes.specs.Lineages.{lineage_at};
 ghost use Rattle.srb_shapes.specs.Parts.{of_parts, parts_of};
 ghost use Rattle.srb_types.specs.Normal as spec;
 
-use crate::parts::{add_parts, copied, is_sub, is_untyped, lies_in_one, of_parts, parts, push_if};
+use crate::parts::{
+    add_parts, is_sub, is_untyped, lies_in_one, of_parts, outer_parts, parts, push_if, put,
+};
 use srb_terms::{NoMemory, Ty, World};
 use std::alloc::Global;
 
-// Whether each of some parts lies in one of others.
-fn all_lie(w: &World, more: &[Ty], parts: &[Ty]) -> bool
-    ensures { result ≡ list_all (λ p. list_any (λ q. lies_in (lineage_at w.now) p q) parts.now) more.now }
+// The first of some parts that lies in none of others, and those after it.
+fn first_outer<'a>(w: &World, more: &'a [Ty], parts: &[Ty]) -> Option<(&'a Ty, &'a [Ty])>
+    ensures { MatchOption result (spec.with_parts (lineage_at w.now) parts.now more.now ≡ parts.now) (λ r.
+        (list_any (λ q. lies_in (lineage_at w.now) r.0.now q) parts.now ≡ false)
+        × (spec.with_parts (lineage_at w.now) parts.now more.now ≡ spec.with_parts (lineage_at w.now) parts.now (r.0.now ∷ r.1.now))) }
 {
-    'more: for p in more {
+    let mut rest = more;
+    'rest: while let [p, after @ ..] = rest {
         if !lies_in_one(w, p, parts) {
-            return false;
+            return Some((p, after));
         }
+        rest = after;
     }
-    true
+    None
+}
+
+// The parts with more, the first of which lies in none of them.
+#[tactic(auto, unfolding(crate::specs::Normal::with_part))]
+fn joined(alloc: Global, w: &World, parts: &[Ty], p: &Ty, more: &[Ty]) -> Result<Vec<Ty>, NoMemory>
+    requires { list_any (λ q. lies_in (lineage_at w.now) p.now q) parts.now ≡ false }
+    ensures { IfOk result (λ ts. ts.items ≡ spec.with_parts (lineage_at w.now) parts.now (p.now ∷ more.now)) }
+{
+    let mut all = outer_parts(alloc, w, p, parts)?;
+    put(alloc, p, &mut all)?;
+    add_parts(alloc, w, more, &mut all)?;
+    Ok(all)
 }
 
 // The union of the parts of a type: the type itself, but for a union of fewer than two.
@@ -39,19 +57,17 @@ fn together(t: &Ty) -> Result<Ty, NoMemory>
 }
 
 /// `T.any` of two types in normal form. Where the second adds nothing, the answer shares the parts of the first, and takes no memory.
-#[tactic(auto, using(crate::proofs::Joining::all_stay), unfolding(crate::specs::Normal::any_of))]
+#[tactic(auto, unfolding(crate::specs::Normal::any_of))]
 pub fn any(alloc: Global, w: &World, a: &Ty, b: &Ty) -> Result<Ty, NoMemory>
     ensures { IfOk result (λ t. t ≡ spec.any_of (lineage_at w.now) a.now b.now) }
 {
     if is_untyped(a) || is_untyped(b) {
         return Ok(Ty::Untyped);
     }
-    if all_lie(w, parts(b), parts(a)) {
-        return together(a);
+    match first_outer(w, parts(b), parts(a)) {
+        None => together(a),
+        Some((p, more)) => of_parts(alloc, joined(alloc, w, parts(a), p, more)?),
     }
-    let mut all = copied(alloc, parts(a))?;
-    add_parts(alloc, w, parts(b), &mut all)?;
-    of_parts(alloc, all)
 }
 
 // The parts that are no subtypes of this type.

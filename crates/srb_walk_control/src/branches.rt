@@ -194,6 +194,7 @@ pub fn arm<W: Walk, L: Language>(
 }
 
 /// Judges `elsif` arms.
+#[inline(never)]
 pub fn arms<W: Walk, L: Language>(
     alloc: Global,
     walk: &W,
@@ -213,6 +214,7 @@ pub fn arms<W: Walk, L: Language>(
 }
 
 /// The type of all branches, after the last one that is none.
+#[inline(never)]
 pub fn without_otherwise<L: Language>(
     alloc: Global,
     language: &L,
@@ -234,6 +236,7 @@ pub fn without_otherwise<L: Language>(
 }
 
 /// Judges the last branch, and answers the type of all.
+#[inline(never)]
 pub fn last_branch<W: Walk, L: Language>(
     alloc: Global,
     walk: &W,

@@ -45,6 +45,7 @@ pub enum Subject {
 }
 
 /// The subject of a `case`, before it is judged.
+#[inline(never)]
 pub fn subject_of<L: Language>(
     alloc: Global,
     language: &L,
@@ -160,6 +161,7 @@ pub fn fit<W: Walk, L: Language>(
 }
 
 /// Judges the patterns of a `when`.
+#[inline(never)]
 pub fn patterns<W: Walk, L: Language>(
     alloc: Global,
     walk: &W,

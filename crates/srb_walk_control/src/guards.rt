@@ -56,6 +56,7 @@ fn judge_seeing<W: Walk, L: Language>(
 }
 
 /// The type of what a clause catches.
+#[inline(never)]
 fn type_caught<L: Language>(
     alloc: Global,
     language: &L,
@@ -123,6 +124,7 @@ fn catch_all<L: Language>(
 }
 
 /// Assigns what a clause catches to its variable, after its patterns. The context is that of the guard.
+#[inline(never)]
 fn after_patterns<L: Language>(
     alloc: Global,
     language: &L,
@@ -149,6 +151,7 @@ fn after_patterns<L: Language>(
 }
 
 /// Judges the patterns of a `rescue` clause and assigns its variable. The context is that of the guard.
+#[inline(never)]
 pub fn caught<W: Walk, L: Language>(
     alloc: Global,
     walk: &W,
@@ -236,6 +239,7 @@ pub fn clause<W: Walk, L: Language>(
 }
 
 /// Judges `rescue` clauses.
+#[inline(never)]
 pub fn clauses<W: Walk, L: Language>(
     alloc: Global,
     walk: &W,
@@ -255,6 +259,7 @@ pub fn clauses<W: Walk, L: Language>(
 }
 
 /// With the end of the first body of a guard in front, which has no `else`.
+#[inline(never)]
 fn without_else<L: Language>(
     alloc: Global,
     language: &L,
@@ -278,6 +283,7 @@ fn without_else<L: Language>(
 }
 
 /// Judges the `else` of a guard in this environment.
+#[inline(never)]
 fn else_body<W: Walk, L: Language>(
     alloc: Global,
     walk: &W,
@@ -337,6 +343,7 @@ pub fn guard_else<W: Walk, L: Language>(
 }
 
 /// The variables that an `ensure` assigns and that outlive it.
+#[inline(never)]
 pub fn ensure_names<L: Language>(
     alloc: Global,
     language: &L,
@@ -376,6 +383,7 @@ pub fn ensure_body<W: Walk, L: Language>(
 }
 
 /// Judges an `ensure` by the environment at the guard's entry, and answers the type of the whole. The context is that of the guard.
+#[inline(never)]
 fn with_ensure<W: Walk, L: Language>(
     alloc: Global,
     walk: &W,

@@ -3,6 +3,9 @@
 //! Each function judges one kind of tree, and is given what judges the trees in it (`srb_walk::walking::Walk`). `sequences` judges
 //! statements, arrays, hashes and strings with code, `branches` conditionals, `loops` `while` and `until`, `cases` `case`, and `guards`
 //! `begin` with `rescue`, `else` and `ensure`.
+//!
+//! Each level of a nested tree holds the frames of what judges it. So a function that no level needs on the way to the next, as what judges
+//! another part of a `case`, is never inlined.
 #![tactic(auto)]
 
 pub mod branches;

@@ -1,6 +1,8 @@
 ghost use Rattle.std.specs.Prelude.{◌≡◌, ◌+◌, ◌<◌};
 
-use crate::{Boxed, Cause, Diag, Ended, Items, Level, Name, NoMemory, Project, Span, Steps, Words};
+use crate::{
+    Boxed, Cause, Diag, Ended, Items, Level, Name, NoMemory, PathMap, Project, Span, Steps, Words,
+};
 use std::alloc::Global;
 use std::marker::Brand;
 use std::sync::ledger::{Blank, Ledger};
@@ -104,6 +106,39 @@ fn a_project_is_in_order_of_its_paths(rt: HostRuntime) -> Result<(), NoMemory> {
     }
     assert!(rt; project.bytes("z.rb") == None && !project.is_empty());
     assert_eq!(rt; project.into_files().len(), 4);
+    Ok(())
+}
+
+fn numbers_by_path(alloc: Global) -> Result<PathMap<u8>, NoMemory> {
+    let mut map = PathMap::new(alloc);
+    map.put(Name::from_str(alloc, "b")?, 1)?;
+    map.put(Name::from_str(alloc, "d")?, 2)?;
+    map.put(Name::from_str(alloc, "a")?, 3)?;
+    map.put(Name::from_str(alloc, "b")?, 4)?;
+    Ok(map)
+}
+
+#[test]
+fn a_map_finds_by_path(rt: HostRuntime) -> Result<(), NoMemory> {
+    let map = numbers_by_path(rt.alloc())?;
+    assert!(rt; map.len() == 3 && !map.is_empty());
+    assert!(rt; map.find("a") == Ok(0) && map.find("b") == Ok(1) && map.find("d") == Ok(2));
+    assert!(rt; map.find("") == Err(0) && map.find("c") == Err(2) && map.find("e") == Err(3));
+    assert!(rt; map.get("a") == Some(&3) && map.get("b") == Some(&4) && map.get("c") == None);
+    Ok(())
+}
+
+#[test]
+fn a_map_changes_and_drops_by_index(rt: HostRuntime) -> Result<(), NoMemory> {
+    let mut map = numbers_by_path(rt.alloc())?;
+    if let Ok(index) = map.find("d") {
+        *map.value_mut(index) = 7;
+    }
+    if let Ok(index) = map.find("a") {
+        map.remove(index);
+    }
+    assert!(rt; map.len() == 2 && map.get("a") == None);
+    assert!(rt; map.get("b") == Some(&4) && map.get("d") == Some(&7));
     Ok(())
 }
 

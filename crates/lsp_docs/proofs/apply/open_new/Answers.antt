@@ -6,18 +6,18 @@ use Rattle.lsp_docs.proofs.apply.open_new.Goals as goal
 
 pub returns-then-count-ge-FILES_LIMIT-clause-refused : goal.returns-then-count-ge-FILES_LIMIT-clause-refused
 returns-then-count-ge-FILES_LIMIT-clause-refused c = λ other agreed.
-    let count = ap length c.as_slice-count.ensures.rows in
-    opens_many agreed c.args.path.now c.args.rows.now c.args.index c.args.text.now c.as_slice-count.ensures.ordered c.requires (omega (arith, count, c.if-count-ge-FILES_LIMIT.true))
+    let count = ap length c.entries-count.ensures.entries in
+    opens_many agreed c.args.path.now c.args.rows.now c.args.index c.args.text.now c.entries-count.ensures.rows c.requires (omega (arith, count, c.if-count-ge-FILES_LIMIT.true))
     ∙ ap (λ n. Err (TooMany n)) (sym count)
 
 pub returns-in_err-text-clause-refused : goal.returns-in_err-text-clause-refused
 returns-in_err-text-clause-refused c =
-    let count = ap length c.as_slice-count.ensures.rows in
+    let count = ap length c.entries-count.ensures.entries in
     let e = c.in_err-text.field-0.0 in
     err_is c.from_residual.result e _ c.from_residual.ensures.1 (λ other agreed.
     let why = c.in_err-text.ensures.refused other in
     let total = c.total.ensures.total in
-    opens_new_big agreed c.args.path.now c.args.rows.now c.args.index c.args.text.now c.as_slice-count.ensures.ordered c.requires (omega (arith, count, c.if-count-ge-FILES_LIMIT.false))
+    opens_new_big agreed c.args.path.now c.args.rows.now c.args.index c.args.text.now c.entries-count.ensures.rows c.requires (omega (arith, count, c.if-count-ge-FILES_LIMIT.false))
     (omega (arith, total, why.1))
     ∙ ap (λ n. Err (TooBig (n + length c.args.text.now))) (sym total) ∙ ap Err (sym why.0))
 
@@ -28,8 +28,8 @@ insert-requires-clause-fits c =
 
 pub returns-clause-done : goal.returns-clause-done
 returns-clause-done c = λ agreed.
-    let count = ap length c.as_slice-count.ensures.rows in
+    let count = ap length c.entries-count.ensures.entries in
     let total = c.total.ensures.total in
-    opens_new agreed c.args.path.now c.args.rows.now c.insert.new.self c.args.index c.args.text.now c.as_slice-count.ensures.ordered c.requires (omega (arith, count, c.if-count-ge-FILES_LIMIT.false))
-    (c.in_ok-insert.ensures.ok ∙ ap (λ t. insert c.args.rows.now c.args.index (record { path = c.args.path.now; saved = None; text = Some t })) c.in_ok-text.ensures.made)
+    opens_new agreed c.args.path.now c.args.rows.now c.insert.new.self c.args.index c.args.text.now c.entries-count.ensures.rows c.requires (omega (arith, count, c.if-count-ge-FILES_LIMIT.false))
+    (c.in_ok-insert.ensures.ok ∙ ap (λ t. insert c.args.rows.now c.args.index (c.args.path.now, record { saved = None; text = Some t })) c.in_ok-text.ensures.made)
     c.held_text.ensures.spelled (omega (arith, total, c.in_ok-text.ensures.fits))

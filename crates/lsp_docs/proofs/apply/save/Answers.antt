@@ -1,26 +1,21 @@
-use Rattle.std.proofs.Common.{◌≡◌, Some, false, ap, ◌∙◌, subst}
-use Rattle.std.specs.Prelude.{Ok, is_some}
-use Rattle.lsp_docs.specs.declared.row.Row.{Row}
-use Rattle.lsp_docs.specs.Documents.{IsDoneFor, Saves, if_open}
-use Rattle.lsp_docs.specs.Rows.{documents_of}
-use Rattle.lsp_docs.proofs.RowLemmas.{get_within}
+use Rattle.std.proofs.Common.{◌≡◌, Some, ap, ◌∙◌, subst}
+use Rattle.std.specs.Prelude.{is_some}
+use Rattle.srb_terms.proofs.PathOrder.{entry_within}
+use Rattle.lsp_docs.specs.Rows.{Row}
 use Rattle.lsp_docs.proofs.RowsHold.{same_row}
 use Rattle.lsp_docs.proofs.ApplyLemmas.{saves_done}
 use Rattle.lsp_docs.proofs.apply.save.Goals as goal
 
 pub save-requires-clause-within : goal.save-requires-clause-within
-save-requires-clause-within c = let found = c.in-Some.ensures.«open» in get_within c.args.rows.now c.in-Some.index found.0 found.1.here
+save-requires-clause-within c = entry_within c.args.rows.now c.in-Some.index _ c.in-Some.ensures.«open».here
 
 pub save-requires-clause-open : goal.save-requires-clause-open
 save-requires-clause-open c = λ r get.
-    let found = c.in-Some.ensures.«open» in
-    ap is_some (subst (λ (x : Row). x.text ≡ Some c.in-Some.text.now) (same_row c.args.rows.now c.in-Some.index found.0 r found.1.here get) found.2)
+    let at = c.in-Some.ensures.«open» in
+    ap is_some (subst (λ (x : Row). x.1.text ≡ Some c.in-Some.text.now) (same_row c.args.rows.now c.in-Some.index (c.args.path.now, at.doc) r at.here get) at.with_text)
 
 pub returns-clause-done : goal.returns-clause-done
 returns-clause-done c = λ agreed.
-    let found = c.in-Some.ensures.«open» in
-    let rows = c.args.rows.now in
-    subst (λ f. IsDoneFor (if_open (documents_of agreed rows) (λ g. Ok (Saves g)) f) (documents_of agreed rows) (documents_of agreed c.save.new.self) (record { path = f; edit = false })) found.1.path
-    (saves_done agreed rows c.save.new.self c.in-Some.index found.0 c.in-Some.text.now c.in_ok-bytes.bytes
-    (record { are = c.find_open.ensures.ordered; here = found.1.here; with_text = found.2 })
-    (c.in_ok-bytes.ensures ∙ c.as_bytes.ensures.value ∙ c.as_str.ensures.bytes) (c.save.ensures found.0 found.1.here))
+    let at = c.in-Some.ensures.«open» in
+    saves_done agreed c.args.path.now c.args.rows.now c.save.new.self c.in-Some.index c.in-Some.text.now c.in_ok-bytes.bytes c.find_open.ensures.rows at
+    (c.in_ok-bytes.ensures ∙ c.as_bytes.ensures.value ∙ c.as_str.ensures.bytes) (c.save.ensures (c.args.path.now, at.doc) at.here)

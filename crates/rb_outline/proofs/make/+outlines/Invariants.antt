@@ -4,8 +4,8 @@ use Rattle.rb_outline.specs.Outlines as spec
 use Rattle.rb_outline.specs.Outlines.{outline_of}
 use Rattle.rb_outline.proofs.make.+outlines.Given as goal
 
-abbrev pub decreases-outline : goal.decreases-outline
-decreases-outline l = 8 * goal.size-outline l + 0
+abbrev pub decreases-outlined : goal.decreases-outlined
+decreases-outlined l = 8 * goal.size-outlined l + 0
 
 abbrev pub decreases-parts : goal.decreases-parts
 decreases-parts l = 8 * goal.size-parts l + 0
@@ -80,28 +80,28 @@ abbrev pub decreases-parameters : goal.decreases-parameters
 decreases-parameters l = 8 * goal.size-parameters l + 3
 
 abbrev pub invariant-row-loop-tree : goal.invariant-row-loop-tree
-invariant-row-loop-tree l = l.parts ≡ map outline_of (take l.tree-index l.trees)
+invariant-row-loop-tree l = l.parts.items ≡ map outline_of (take l.tree-index l.trees)
 
 abbrev pub invariant-arguments-loop-each : goal.invariant-arguments-loop-each
-invariant-arguments-loop-each l = l.parts ≡ map (spec.argument_outline outline_of) (take l.each-index l.arguments)
+invariant-arguments-loop-each l = l.parts.items ≡ map (spec.argument_outline outline_of) (take l.each-index l.arguments)
 
 abbrev pub invariant-suffixes-loop-each : goal.invariant-suffixes-loop-each
-invariant-suffixes-loop-each l = l.parts ≡ map (spec.suffix_outline outline_of) (take l.each-index l.suffixes)
+invariant-suffixes-loop-each l = l.parts.items ≡ map (spec.suffix_outline outline_of) (take l.each-index l.suffixes)
 
 abbrev pub invariant-pieces-loop-each : goal.invariant-pieces-loop-each
-invariant-pieces-loop-each l = l.parts ≡ map (spec.piece_outline outline_of) (take l.each-index l.pieces)
+invariant-pieces-loop-each l = l.parts.items ≡ map (spec.piece_outline outline_of) (take l.each-index l.pieces)
 
 abbrev pub invariant-pairs-loop-each : goal.invariant-pairs-loop-each
-invariant-pairs-loop-each l = l.parts ≡ map (spec.pair_outline outline_of) (take l.each-index l.pairs)
+invariant-pairs-loop-each l = l.parts.items ≡ map (spec.pair_outline outline_of) (take l.each-index l.pairs)
 
 abbrev pub invariant-arms-loop-each : goal.invariant-arms-loop-each
-invariant-arms-loop-each l = l.parts ≡ map (spec.arm_outline outline_of) (take l.each-index l.arms)
+invariant-arms-loop-each l = l.parts.items ≡ map (spec.arm_outline outline_of) (take l.each-index l.arms)
 
 abbrev pub invariant-whens-loop-each : goal.invariant-whens-loop-each
-invariant-whens-loop-each l = l.parts ≡ map (spec.when_outline outline_of) (take l.each-index l.arms)
+invariant-whens-loop-each l = l.parts.items ≡ map (spec.when_outline outline_of) (take l.each-index l.arms)
 
 abbrev pub invariant-rescues-loop-each : goal.invariant-rescues-loop-each
-invariant-rescues-loop-each l = l.parts ≡ map (spec.rescue_outline outline_of) (take l.each-index l.clauses)
+invariant-rescues-loop-each l = l.parts.items ≡ map (spec.rescue_outline outline_of) (take l.each-index l.clauses)
 
 abbrev pub invariant-parameters-loop-each : goal.invariant-parameters-loop-each
-invariant-parameters-loop-each l = l.parts ≡ map (spec.parameter_outline outline_of) (take l.each-index l.parameters)
+invariant-parameters-loop-each l = l.parts.items ≡ map (spec.parameter_outline outline_of) (take l.each-index l.parameters)

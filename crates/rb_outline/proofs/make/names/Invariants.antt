@@ -3,4 +3,4 @@ use Rattle.rb_outline.specs.Outlines.{name_outline}
 use Rattle.rb_outline.proofs.make.names.Given as goal
 
 abbrev pub invariant-loop-name : goal.invariant-loop-name
-invariant-loop-name l = l.parts ≡ map name_outline (take l.name-index l.names)
+invariant-loop-name l = l.parts.items ≡ map name_outline (take l.name-index l.names)

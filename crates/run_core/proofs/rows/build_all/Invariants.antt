@@ -4,4 +4,4 @@ use Rattle.run_core.proofs.rows.build_all.Given as goal
 
 -- the rows so far are changed, and those after are as they were
 abbrev pub invariant-rows : goal.invariant-rows
-invariant-rows l = l.rows ≡ after_built (take l.index l.initial.rows) ++ drop l.index l.initial.rows
+invariant-rows l = l.map.entries ≡ after_built (take l.index l.initial.map.entries) ++ drop l.index l.initial.map.entries

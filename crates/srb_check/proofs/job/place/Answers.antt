@@ -2,7 +2,7 @@ use Rattle.std.proofs.Common.{rules, of_calls, ap, ◌∙◌}
 use Rattle.std.specs.Option.{option_map}
 use Rattle.std.specs.List.{slice_get}
 use Rattle.std.proofs.lemmas.Fn.{always_returns_same}
-use Rattle.srb_terms.specs.Projects.{path_cmp}
+use Rattle.srb_terms.specs.PathMaps.{path_cmp}
 use Rattle.srb_check.specs.Jobs.{bytes_of_file}
 use Rattle.srb_check.proofs.Jobs.{place_tells}
 use Rattle.srb_check.proofs.job.place.Goals as goal

@@ -1,30 +1,25 @@
-use Rattle.std.proofs.Common.{sym, ap, ◌∙◌, arith}
+use Rattle.std.proofs.Common.{sym, ap, refl, ◌∙◌}
 use Rattle.srb_terms.specs.Projects.{bytes_at}
-use Rattle.lsp_docs.specs.Documents.{Documents}
 use Rattle.srb_text.specs.Limits.{MOST_BYTES}
-use Rattle.lsp_docs.specs.Rows.{present_of, project_of}
-use Rattle.lsp_docs.proofs.RowLemmas.{size_within}
-use Rattle.lsp_docs.proofs.RowsHold.{bytes_here, bytes_absent, read_row}
+use Rattle.lsp_docs.specs.Documents.{Documents}
+use Rattle.lsp_docs.specs.Rows.{Row, present_of}
+use Rattle.lsp_docs.proofs.RowLemmas.{bytes_absent, bytes_here}
+use Rattle.lsp_docs.proofs.RowsHold.{same_doc}
 use Rattle.lsp_docs.proofs.TextLemmas.{copied_size}
 use Rattle.lsp_docs.proofs.docs.Docs.bytes.Goals as goal
 
 pub returns-in-Ok-clause-bytes : goal.returns-in-Ok-clause-bytes
 returns-in-Ok-clause-bytes c =
     let found = c.in-Ok.ensures.found in
-    let rows = c.self.inside.rows in
-    let same = read_row rows c.as_slice.result.now c.in-Ok.index c.index-as_slice-index.result found.0 c.as_slice.ensures.rows found.1.here c.index-as_slice-index.is in
-    c.present.ensures ∙ ap present_of same ∙ sym (bytes_here present_of rows c.in-Ok.index found.0 c.as_slice.ensures.ordered found.1.here)
-    ∙ ap (λ f. bytes_at f (project_of rows)) found.1.path ∙ ap (λ (d : Documents). bytes_at c.args.path.now d.project) c.self.view_is
+    let row : Row = (c.args.path.now, found.0) in
+    c.present.ensures ∙ ap present_of (same_doc c.self.inside.rows c.in-Ok.index c.doc.result.now row c.doc.ensures.doc found.1)
+    ∙ sym (bytes_here present_of c.self.inside.rows c.in-Ok.index row c.find.ensures.rows.ordered found.1)
+    ∙ ap (λ (d : Documents). bytes_at c.args.path.now d.project) c.self.view_is
 
 pub returns-in-Ok-clause-small : goal.returns-in-Ok-clause-small
-returns-in-Ok-clause-small c =
-    let found = c.in-Ok.ensures.found in
-    let rows = c.self.inside.rows in
-    let same = read_row rows c.as_slice.result.now c.in-Ok.index c.index-as_slice-index.result found.0 c.as_slice.ensures.rows found.1.here c.index-as_slice-index.is in
-    copied_size c.present.result (present_of found.0) MOST_BYTES (c.present.ensures ∙ ap present_of same)
-    (omega (arith, size_within rows c.in-Ok.index found.0 found.1.here, c.as_slice.ensures.bytes))
+returns-in-Ok-clause-small c = copied_size c.present.result (present_of c.doc.result.now) MOST_BYTES c.present.ensures c.doc.ensures.small
 
 pub returns-in-Err-clause-bytes : goal.returns-in-Err-clause-bytes
 returns-in-Err-clause-bytes c =
-    sym (bytes_absent present_of c.args.path.now c.self.inside.rows c.in-Err.field-0 c.in-Err.ensures.absent)
+    sym (bytes_absent present_of c.args.path.now c.self.inside.rows c.in-Err.field-0 c.in-Err.ensures.absent refl)
     ∙ ap (λ (d : Documents). bytes_at c.args.path.now d.project) c.self.view_is

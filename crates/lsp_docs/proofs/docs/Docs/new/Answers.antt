@@ -1,7 +1,6 @@
 use Rattle.std.proofs.Common.{ℕ, List, ap₂, ◌∙◌}
-use Rattle.lsp_docs.specs.declared.row.Row.{Row}
+use Rattle.lsp_docs.specs.Rows.{Row, documents_of}
 use Rattle.srb_text.specs.declared.Encoding.TheVariants.{Utf16}
-use Rattle.lsp_docs.specs.Rows.{documents_of}
 use Rattle.lsp_docs.proofs.ApplyLemmas.{closed_documents}
 use Rattle.lsp_docs.proofs.docs.Docs.new.Goals as goal
 

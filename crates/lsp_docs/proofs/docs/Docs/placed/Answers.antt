@@ -3,9 +3,7 @@ use Rattle.std.specs.Prelude.{unwrap_or, encode_utf8_all}
 use Rattle.srb_text.specs.declared.Encoding.{Encoding}
 use Rattle.srb_terms.specs.Projects.{bytes_at}
 use Rattle.lsp_docs.specs.Documents.{Documents, placed}
-use Rattle.lsp_docs.specs.Rows.{present_of, project_of}
-use Rattle.lsp_docs.proofs.RowsHold.{bytes_here}
-use Rattle.lsp_docs.proofs.ApplyLemmas.{present_is}
+use Rattle.lsp_docs.proofs.ApplyLemmas.{bytes_open}
 use Rattle.lsp_docs.proofs.TextLemmas.{copied_or, length_copied, if_ok_map, placed_again}
 use Rattle.lsp_docs.proofs.docs.Docs.placed.Goals as goal
 
@@ -14,12 +12,9 @@ text_of-requires c = length_copied c.bytes.result _ c.unwrap_or.result c.unwrap_
 
 pub returns-in-Some : goal.returns-in-Some
 returns-in-Some c =
-    let found = c.in-Some.ensures.«open» in
-    let rows = c.self.inside.rows in
     let bytes : unwrap_or (bytes_at c.args.path.now c.args.self.now.project) [] ≡ encode_utf8_all c.in-Some.text.now =
     ap (λ o. unwrap_or o []) (ap (λ (d : Documents). bytes_at c.args.path.now d.project) (sym c.self.view_is)
-    ∙ ap (λ f. bytes_at f (project_of rows)) (sym found.1.path)
-    ∙ bytes_here present_of rows c.in-Some.field-0-0 found.0 c.find_open.ensures.ordered found.1.here ∙ present_is found.0 c.in-Some.text.now found.2) in
+    ∙ bytes_open c.args.path.now c.self.inside.rows c.in-Some.field-0-0 c.in-Some.text.now c.find_open.ensures.rows c.in-Some.ensures.«open») in
     let units = ap (λ (d : Documents). d.agreed.encoding) c.self.view_is in
     if_ok_map c.placed.result _ _ (λ list is. is ∙ ap (λ (x : Encoding). map (placed x (encode_utf8_all c.in-Some.text.now)) c.args.errors.now) units ∙ ap (λ b. map (placed c.args.self.now.agreed.encoding b) c.args.errors.now) (sym bytes)) c.placed.ensures
 

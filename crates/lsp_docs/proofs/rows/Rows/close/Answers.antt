@@ -1,35 +1,26 @@
-use Rattle.std.proofs.Common.{None, refl, arith}
-use Rattle.lsp_docs.proofs.RowsHold.{row_at, row_size, set_holds, set_same, within_same, get_same, total_same}
+use Rattle.std.proofs.Common.{arith}
+use Rattle.lsp_docs.specs.Rows.{Row, closed_doc}
+use Rattle.lsp_docs.proofs.RowsHold.{get_same, row_of, set_holds, size_within, total_same}
 use Rattle.lsp_docs.proofs.rows.Rows.close.Goals as goal
 
 pub overflow_sub-self : goal.overflow_sub-self
 overflow_sub-self c =
-    let within = within_same _ _ c.args.index c.self.view_is c.requires.within in
-    let small = row_size _ c.self.inside.total c.args.index c.index_mut-row.result.now c.self.invariant within c.index_mut-row.ensures.value in
-    omega (arith, c.size-size.ensures, small)
-
-pub overflow_add-self : goal.overflow_add-self
-overflow_add-self c =
-    let row = c.index_mut-row.result.now in
-    let within = within_same _ _ c.args.index c.self.view_is c.requires.within in
-    let get = get_same _ _ c.args.index row c.self.view_is (row_at _ c.args.index row within c.index_mut-row.ensures.value) in
-    let small = row_size _ c.self.inside.total c.args.index row c.self.invariant within c.index_mut-row.ensures.value in
-    let fits = c.requires.fits row get in
-    let sum = total_same _ _ c.self.view_is in
-    omega (arith, c.size-size.ensures, c.size.ensures, small, fits, sum, c.self.invariant.2)
+    let rows = c.self.inside.map.entries in
+    let doc = c.value_mut-doc.result.now in
+    let found = row_of rows c.args.index doc c.value_mut-doc.ensures.value in
+    let size = size_within rows c.args.index (found.0, doc) found.1 in
+    omega (arith, c.size-size.ensures, size, c.self.invariant.2)
 
 pub invariant_of-self : goal.invariant_of-self
 invariant_of-self c =
-    let row = c.index_mut-row.result.now in
-    let within = within_same _ _ c.args.index c.self.view_is c.requires.within in
-    let get = get_same _ _ c.args.index row c.self.view_is (row_at _ c.args.index row within c.index_mut-row.ensures.value) in
-    let small = row_size _ c.self.inside.total c.args.index row c.self.invariant within c.index_mut-row.ensures.value in
+    let rows = c.self.inside.map.entries in
+    let doc = c.value_mut-doc.result.now in
+    let found = row_of rows c.args.index doc c.value_mut-doc.ensures.value in
+    let row : Row = (found.0, doc) in
+    let get = get_same rows c.args.self.now c.args.index row c.self.view_is found.1 in
+    let size = size_within rows c.args.index row found.1 in
     let fits = c.requires.fits row get in
-    let sum = total_same _ _ c.self.view_is in
-    set_holds c.self.inside.list.items c.self.inside.total _ c.args.index row (record { path = row.path; saved = row.saved; text = None }) c.self.invariant within c.index_mut-row.ensures.value
-    refl (c.requires.saved row get) (omega (arith, c.size-size.ensures, c.size.ensures, small)) (omega (arith, c.size-size.ensures, c.size.ensures, small, fits, sum, c.self.invariant.2))
-
-pub returns : goal.returns
-returns c = λ r is.
-    set_same c.self.inside.list.items c.args.self.now c.args.index c.index_mut-row.result.now r (λ x. record { path = x.path; saved = x.saved; text = None }) c.self.view_is
-    (within_same _ _ c.args.index c.self.view_is c.requires.within) c.index_mut-row.ensures.value is
+    let sum = total_same rows c.args.self.now c.self.view_is in
+    set_holds rows c.self.inside.total _ c.args.index row (closed_doc doc.saved) c.self.invariant found.1 (c.requires.saved row get)
+    (omega (arith, c.size-size.ensures, c.size.ensures, size, c.self.invariant.2))
+    (omega (arith, c.size-size.ensures, c.size.ensures, size, fits, sum, c.self.invariant.2))

@@ -6,4 +6,4 @@ use Rattle.lsp_docs.proofs.rows.Rows.new.Given as goal
 -- the files so far have rows, and are counted
 abbrev pub invariant-files : goal.invariant-files
 invariant-files l =
-    (l.list.items ≡ map closed_row (take l.file-index l.file-items)) × (l.total ≡ total_bytes (take l.file-index l.file-items))
+    (l.map.entries ≡ map closed_row (take l.file-index l.file-items)) × (l.total ≡ total_bytes (take l.file-index l.file-items))

@@ -1,15 +1,12 @@
-use Rattle.lsp_docs.specs.Rows.{saved_row}
-use Rattle.lsp_docs.proofs.RowsHold.{row_at, save_holds, set_same, within_same, get_same}
+use Rattle.lsp_docs.specs.Rows.{Row}
+use Rattle.lsp_docs.proofs.RowsHold.{get_same, row_of, save_holds}
 use Rattle.lsp_docs.proofs.rows.Rows.save.Goals as goal
 
 pub invariant_of-self : goal.invariant_of-self
 invariant_of-self c =
-    let row = c.index_mut.result.now in
-    let within = within_same _ _ c.args.index c.self.view_is c.requires.within in
-    save_holds c.self.inside.list.items c.self.inside.total c.args.index row c.args.bytes c.self.invariant within c.index_mut.ensures.value
-    (c.requires.«open» row (get_same _ _ c.args.index row c.self.view_is (row_at _ c.args.index row within c.index_mut.ensures.value)))
-
-pub returns : goal.returns
-returns c = λ r is.
-    set_same c.self.inside.list.items c.args.self.now c.args.index c.index_mut.result.now r (λ x. saved_row x c.args.bytes) c.self.view_is
-    (within_same _ _ c.args.index c.self.view_is c.requires.within) c.index_mut.ensures.value is
+    let rows = c.self.inside.map.entries in
+    let doc = c.value_mut-doc.result.now in
+    let found = row_of rows c.args.index doc c.value_mut-doc.ensures.value in
+    let row : Row = (found.0, doc) in
+    save_holds rows c.self.inside.total c.args.index row c.args.bytes c.self.invariant found.1
+    (c.requires.«open» row (get_same rows c.args.self.now c.args.index row c.self.view_is found.1))

@@ -14,16 +14,17 @@ invariant_of-self c =
     let i = c.self.inside in
     let known = subst (IsJobOf i.docs.project) (sym c.in_ok-job.ensures) c.in_ok-built.ensures.job in
     record {
-      core = subst (λ rows. IsCore i.phase i.docs false rows c.in_ok-job.job) (sym c.build.ensures.list)
+      core = subst (λ rows. IsCore i.phase i.docs false rows c.in_ok-job.job) (sym c.build.ensures.entries)
           (built_core _ _ _ _ _ _ c.self.invariant.core (ap (λ (a : Account). a.state.stale) c.self.view_is ∙ c.requires.stale) known);
       since = λ begun fresh.
-          since_built i.docs c.build.new.self.list c.in_ok-last.last (rows_project i.rows.list i.docs.project c.build.ensures.ordered c.self.invariant.core.paths)
+          since_built i.docs c.build.new.self.entries c.in_ok-last.last (rows_project i.rows.entries i.docs.project c.build.ensures.ordered c.self.invariant.core.paths)
           (subst (IsJobOf i.docs.project) (sym c.in_ok-last.ensures) known);
     }
 
 pub returns-clause-makes : goal.returns-clause-makes
 returns-clause-makes c =
-    subst (λ (a : Account). Makes a.state (state_of c.self.inside.docs c.self.inside.phase c.build.new.self.list c.self.inside.epoch false c.self.inside.seen c.self.inside.owing c.self.inside.ended) Build None) c.self.view_is
+    let i = c.self.inside in
+    subst (λ (a : Account). Makes a.state (state_of i.docs i.phase c.build.new.self.entries i.epoch false i.seen i.owing i.ended) Build None) c.self.view_is
     (build_makes _ _ _ _ _ _ _ _ _
     (both _ _ (ap (λ (a : Account). looked a.state) c.self.view_is ∙ c.requires.looked) (ap (λ (a : Account). a.state.stale) c.self.view_is ∙ c.requires.stale))
-    c.build.ensures.ordered c.self.invariant.core.paths c.build.ensures.list)
+    c.build.ensures.ordered c.self.invariant.core.paths c.build.ensures.entries)

@@ -8,7 +8,7 @@ use Rattle.run_core.proofs.core_calls.Core.new.Goals as goal
 
 pub invariant_of-result : goal.invariant_of-result
 invariant_of-result c = record {
-  core = subst (λ d. IsCore Waiting d false c.in_ok-rows.rows.list c.in_ok-job.job) (sym c.in_ok-docs.ensures)
+  core = subst (λ d. IsCore Waiting d false c.in_ok-rows.rows.entries c.in_ok-job.job) (sym c.in_ok-docs.ensures)
       (subst (λ rows. IsCore Waiting (no_documents c.args.files) false rows c.in_ok-job.job) (sym c.in_ok-rows.ensures) (opening_core c.args.files c.in_ok-job.job));
   since = λ begun fresh. absurd (grind (arith, begun));
 }

@@ -9,7 +9,7 @@ use Rattle.run_core.proofs.core_calls.Core.rest.Goals as goal
 
 pub returns-then-not-self : goal.returns-then-not-self
 returns-then-not-self c =
-    (λ i. nat_eq (c.first_todo.ensures i) (length (c.as_slice.ensures.list i)))
-    ∙ first_marked-all Todo c.self.inside.rows.list
-    ∙ sym (ap (λ stale. not stale && is_empty (marked Todo c.self.inside.rows.list)) c.if-not-self.true)
+    (λ i. nat_eq (c.first_todo.ensures i) (length (c.as_slice.ensures.entries i)))
+    ∙ first_marked-all Todo c.self.inside.rows.entries
+    ∙ sym (ap (λ stale. not stale && is_empty (marked Todo c.self.inside.rows.entries)) c.if-not-self.true)
     ∙ ap (λ (a : Account). is_at_rest a.state) c.self.view_is

@@ -1,6 +1,0 @@
-use Rattle.std.proofs.Common.{◌≡◌, take}
-use Rattle.lsp_docs.proofs.rows.copied_rows.Given as goal
-
--- the rows before this index are copied
-abbrev pub invariant-rows : goal.invariant-rows
-invariant-rows l = l.copy.items ≡ take l.row-index l.rows

@@ -1,7 +1,0 @@
-use Rattle.std.proofs.Common.{◌≡◌, take}
-use Rattle.run_core.specs.Rows.{opening_rows}
-use Rattle.run_core.proofs.rows.opening_list.Given as goal
-
--- the rows are those of the files so far
-abbrev pub invariant-files : goal.invariant-files
-invariant-files l = l.list.items ≡ opening_rows (take l.file-index l.files)

@@ -1,5 +1,0 @@
-use Rattle.run_serve.proofs.tests.watch.Given as goal
-
--- the ledger is the blank's
-abbrev pub ghosts-session : goal.ghosts-session
-ghosts-session g a = record { name = a.blank.name; parts = a.blank.parts }

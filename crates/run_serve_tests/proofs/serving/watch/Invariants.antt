@@ -1,0 +1,5 @@
+use Rattle.run_serve_tests.proofs.serving.watch.Given as goal
+
+-- the ledger is the blank's
+abbrev pub ghosts-session : goal.ghosts-session
+ghosts-session g a = record { name = a.blank.name; parts = a.blank.parts }
