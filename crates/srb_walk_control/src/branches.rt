@@ -194,7 +194,6 @@ pub fn arm<W: Walk, L: Language>(
 }
 
 /// Judges `elsif` arms.
-#[inline(never)]
 pub fn arms<W: Walk, L: Language>(
     alloc: Global,
     walk: &W,
@@ -236,7 +235,6 @@ pub fn without_otherwise<L: Language>(
 }
 
 /// Judges the last branch, and answers the type of all.
-#[inline(never)]
 pub fn last_branch<W: Walk, L: Language>(
     alloc: Global,
     walk: &W,

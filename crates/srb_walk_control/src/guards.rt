@@ -151,7 +151,6 @@ fn after_patterns<L: Language>(
 }
 
 /// Judges the patterns of a `rescue` clause and assigns its variable. The context is that of the guard.
-#[inline(never)]
 pub fn caught<W: Walk, L: Language>(
     alloc: Global,
     walk: &W,
@@ -239,7 +238,6 @@ pub fn clause<W: Walk, L: Language>(
 }
 
 /// Judges `rescue` clauses.
-#[inline(never)]
 pub fn clauses<W: Walk, L: Language>(
     alloc: Global,
     walk: &W,
@@ -283,7 +281,6 @@ fn without_else<L: Language>(
 }
 
 /// Judges the `else` of a guard in this environment.
-#[inline(never)]
 fn else_body<W: Walk, L: Language>(
     alloc: Global,
     walk: &W,
@@ -383,7 +380,6 @@ pub fn ensure_body<W: Walk, L: Language>(
 }
 
 /// Judges an `ensure` by the environment at the guard's entry, and answers the type of the whole. The context is that of the guard.
-#[inline(never)]
 fn with_ensure<W: Walk, L: Language>(
     alloc: Global,
     walk: &W,

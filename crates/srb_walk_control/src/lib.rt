@@ -4,8 +4,8 @@
 //! statements, arrays, hashes and strings with code, `branches` conditionals, `loops` `while` and `until`, `cases` `case`, and `guards`
 //! `begin` with `rescue`, `else` and `ensure`.
 //!
-//! Each level of a nested tree holds the frames of what judges it. So a function that no level needs on the way to the next, as what judges
-//! another part of a `case`, is never inlined.
+//! Each level of a nested tree holds the frames of what judges it. So what a level does before or after it judges the tree below, as the
+//! join of what `rescue` may have caught, is never inlined; nor is what judges the patterns of a `case`, in which another `case` is rare.
 #![tactic(auto)]
 
 pub mod branches;
