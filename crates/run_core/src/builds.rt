@@ -1,11 +1,12 @@
 //! A build: each file of the project is loaded, and the symbol table is made of what they declare. And the same after an edit that keeps
 //! the symbol table.
 
-ghost use Rattle.std.specs.Prelude.{◌≡◌, ◌≢◌, ◌+◌, ◌<◌, ◌≤◌, ◌&&◌, List, Option, Some, not, length, take, IfOk, OnOk, IsTrue};
+ghost use Rattle.std.specs.Prelude.{◌≡◌, ◌≢◌, ◌+◌, ◌<◌, ◌≤◌, ◌&&◌, List, Option, Some, not, length, take, IfOk, OnOk, OnErr, IsTrue};
 ghost use Rattle.std.specs.Option.{option_copied, option_map};
 ghost use Rattle.srb_terms.specs.Projects.{File, IsProject, bytes_at};
 ghost use Rattle.lsp_docs.specs.Paths.{Path, Bytes};
 ghost use Rattle.lsp_docs.specs.Documents.{Documents, MOST_FILES};
+ghost use Rattle.lsp_docs.specs.Projects.{with_bytes};
 ghost use Rattle.srb_check.specs.FactLists.{same_facts};
 ghost use Rattle.srb_check.specs.Jobs.{AreLoaded, IsJobOf, IsJobWith, facts_in};
 ghost use Rattle.srb_check.specs.Records.{loaded};
@@ -80,9 +81,34 @@ pub fn stays(kept: bool, stale: bool) -> bool
     kept && !stale
 }
 
-/// The job of the project whose present texts the documents have, after an edit of the file at `path` of the project of `before` that keeps
-/// the facts. What was loaded of the other files is shared, and so is the symbol table.
-pub fn edited_job(
+/// Makes the job of a project that of the project whose present texts the documents have, after an edit of the file at `path` that keeps the
+/// facts. Where that was a file of the project and still is, its record takes the place of the one that the job has, and no other file is
+/// looked at. After an error the job is as it was.
+pub fn edit_job(
+    alloc: Global,
+    job: &mut Job,
+    docs: &Docs,
+    path: &Name,
+    file: &Option<Boxed<FileRec>>,
+) -> Result<(), NoMemory>
+    requires file { file.now ≡ option_map loaded (bytes_at path.now docs.now.project) }
+    requires others { (f : Path) (bytes : Bytes) → f ≢ path.now → bytes_at f docs.now.project ≡ Some bytes → IsJobWith f bytes job.old }
+    ensures edited { (old : List File) → IsProject old → docs.now.project ≡ with_bytes path.now (bytes_at path.now docs.now.project) old → IsJobOf old job.old
+        → project_facts docs.now.project ≡ project_facts old → OnOk result (IsJobOf docs.now.project job.new) }
+    ensures err { OnErr result (job.new ≡ job.old) }
+{
+    if let Some(file) = file {
+        if job.put(path, file.copied()?) {
+            return Ok(());
+        }
+    }
+    *job = edited_job(alloc, docs, path, file, job)?;
+    Ok(())
+}
+
+// The job of the project whose present texts the documents have, after an edit of the file at `path` of the project of `before` that keeps
+// the facts. What was loaded of the other files is shared, and so is the symbol table.
+fn edited_job(
     alloc: Global,
     docs: &Docs,
     path: &Name,

@@ -17,7 +17,7 @@ ghost use Rattle.run_core.specs.Machine.{is_at_rest, looked, opening, project_of
 ghost use Rattle.run_core.specs.Sessions.{Waiting, Serving};
 
 use crate::answers::{closing_answer, log_of, reason_of, serving_answer, waiting_answer};
-use crate::builds::{edited_job, is_kept, job_of, stays};
+use crate::builds::{edit_job, is_kept, job_of, stays};
 use crate::checks::{fate_of, with_check, work_in};
 use crate::fate::Fate;
 use crate::landed::Landed;
@@ -41,7 +41,7 @@ pub struct Core {
     docs: Docs,
     phase: Phase,
     rows: Rows,
-    job: Boxed<Job>,
+    job: Job,
     last: Boxed<Job>,
     epoch: u64,
     stale: bool,
@@ -76,8 +76,8 @@ impl Core {
         ensures checks { IfOk result (λ core. core.own_checks ≡ 0) }
         ensures idle { IfOk result (λ core. core.idle ≡ true) }
     {
-        let job = Boxed::new(alloc, Job::empty(alloc)?)?;
-        let last = job.copied()?;
+        let job = Job::empty(alloc)?;
+        let last = Boxed::new(alloc, Job::empty(alloc)?)?;
         let rows = Rows::new(alloc, &files)?;
         let docs = Docs::new(alloc, files)?;
         Ok(Core {
@@ -237,8 +237,8 @@ impl Core {
         ensures job { self.new.job ≡ self.old.job }
         ensures err { OnErr result (self.new ≡ self.old) }
     {
-        let file = self.job.get().load_at(alloc, path, docs.bytes(path))?;
-        let kept = is_kept(alloc, &self.docs, path, &file, self.job.get())?;
+        let file = self.job.load_at(alloc, path, docs.bytes(path))?;
+        let kept = is_kept(alloc, &self.docs, path, &file, &self.job)?;
         if stays(kept, self.stale) {
             self.take_kept(alloc, docs, path, &file)
         } else {
@@ -297,11 +297,9 @@ impl Core {
     {
         let name = path.copied()?;
         self.rows.reserve()?;
-        let edited = edited_job(alloc, &docs, path, file, self.job.get())?;
-        let job = Boxed::new(alloc, edited)?;
+        edit_job(alloc, &mut self.job, &docs, path, file)?;
         self.rows.edit(name, file.is_some(), true);
         self.docs = docs;
-        self.job = job;
         self.epoch += 1;
         self.seen = false;
         Ok(())
@@ -333,10 +331,9 @@ impl Core {
         ensures idle { self.new.idle ≡ self.old.idle }
         ensures err { OnErr result (self.new ≡ self.old) }
     {
-        let built = job_of(alloc, &self.docs, self.job.get())?;
-        let job = Boxed::new(alloc, built)?;
-        let last = job.copied()?;
-        let handed = job.copied()?;
+        let job = job_of(alloc, &self.docs, &self.job)?;
+        let last = Boxed::new(alloc, job.copied(alloc)?)?;
+        let handed = last.copied()?;
         self.rows.build();
         self.stale = false;
         self.job = job;
@@ -381,7 +378,7 @@ impl Core {
         let index = next_row(&self.rows);
         let file = self.rows.row(index);
         let owed = file.value().owed;
-        let list = self.job.get().check(alloc, file.path(), steps)?;
+        let list = self.job.check(alloc, file.path(), steps)?;
         let landed = work_in(alloc, &self.docs, &mut self.rows, index, self.epoch, list)?;
         self.seen = false;
         self.own_checks = with_check(owed, self.own_checks);

@@ -13,7 +13,8 @@ use run_queues::{Inbox, PutPass, TakePass};
 use run_serve::{ServeEnd, read, serve, turn};
 use run_watch::{EndCause, Inp, Keep, MemTrace, NoTrace, Step, Trace, Watcher, Watchers};
 use srb_io::{Failed, MemSink, MemSource, Sink, Source};
-use srb_terms::{Items, Name, NoMemory, Project, Steps, Words};
+use srb_samples::three_files;
+use srb_terms::{Items, NoMemory, Project, Steps, Words};
 use std::alloc::{AllocError, Global};
 use std::marker::Brand;
 use std::process::Abort;
@@ -40,28 +41,6 @@ const INITIALIZED: &str =
     r#"{"id":1,"jsonrpc":"2.0","result":{"capabilities":{"positionEncoding":"utf-16","textDocumentSync":{"change":2,"openClose":true,"save":{"includeText":false}}},"serverInfo":{"name":"srb"}}}"#;
 
 const NULL: &str = r#"{"id":2,"jsonrpc":"2.0","result":null}"#;
-
-/// A project of the files `a.rb`, `b.rb` and `c.rb`, each of which has this text.
-fn three_files(alloc: Global, text: &str) -> Result<Project, NoMemory>
-    requires { length text.now ≤ 1000 }
-    ensures count { IfOk result (λ p. length p ≤ MOST_FILES) }
-    ensures bytes { IfOk result (λ p. total_bytes p ≤ MOST_BYTES) }
-{
-    let mut files = Project::new(alloc);
-    files.put(
-        Name::from_str(alloc, "a.rb")?,
-        Vec::from_slice(alloc, text.as_bytes())?,
-    )?;
-    files.put(
-        Name::from_str(alloc, "b.rb")?,
-        Vec::from_slice(alloc, text.as_bytes())?,
-    )?;
-    files.put(
-        Name::from_str(alloc, "c.rb")?,
-        Vec::from_slice(alloc, text.as_bytes())?,
-    )?;
-    Ok(files)
-}
 
 /// The input of `initialize`.
 fn initialize(alloc: Global) -> Result<Inp, NoMemory> {

@@ -1,10 +1,10 @@
 -- Files that were loaded, and where a path stands among them.
 use Rattle.std.proofs.Common.{◌≡◌, ℕ, zero, suc, ◌<◌, ◌≤◌, ◌++◌, Bool, true, false, if◌then◌else◌, List, [], ◌∷◌, map, length, get_or, Option, Some, None, Result, Ok, Err, bytes_eq, refl, ap, sym, subst, ◌∙◌, arith, ⊎_elim, encode_utf8_all}
-use Rattle.std.specs.List.{slice_get}
+use Rattle.std.specs.List.{slice_get, slice_set}
 use Rattle.std.specs.Result.{result_unwrap_or}
 use Rattle.std.specs.Option.{option_map}
 use Rattle.std.specs.Cmp.Lexicographic.{nat_list_cmp_total, texts_ties}
-use Rattle.std.specs.Ordering.{is_eq, ordering_index, ordering_reverse}
+use Rattle.std.specs.Ordering.{is_eq, match_ordering, ordering_index, ordering_reverse}
 use Rattle.std.specs.declared.cmp.Ordering.{Ordering}
 use Rattle.std.specs.declared.cmp.Ordering.TheVariants.{Less, Equal, Greater}
 use Rattle.std.specs.List.Sorted.{IsBinarySearchResult, IsNonDecreasingBy, IsSearchInRange}
@@ -12,8 +12,8 @@ use Rattle.std.proofs.lemmas.Bool.{cases_lt}
 use Rattle.std.proofs.lemmas.List.{length-map, map-append}
 use Rattle.std.proofs.lemmas.Slice.Eq.{bytes_eq-Decides}
 use Rattle.std.proofs.lemmas.Option.{same_Some, slice_get-map, slice_get_past}
-use Rattle.srb_terms.specs.PathMaps.{IsBeforeAll, path_cmp}
-use Rattle.srb_terms.specs.Projects.{File, IsProject, bytes_at}
+use Rattle.srb_terms.specs.PathMaps.{IsBeforeAll, path_cmp, set_value}
+use Rattle.srb_terms.specs.Projects.{File, IsProject, bytes_at, put_file}
 use Rattle.srb_terms.specs.declared.fact.Fact.{Fact}
 use Rattle.srb_terms.specs.declared.world.World.{World}
 use Rattle.srb_builtin.specs.Table.{built_in}
@@ -222,6 +222,62 @@ job_again project old self held world before job are known facts same table is =
       files = subst (AreLoaded project) (sym same) are;
       table = subst (λ w. Stands w (project_facts project)) (sym table) (subst (Stands before.world) (sym facts) known.table);
       members = subst (λ w. TellsMembers w (project_facts project)) (sym table) (subst (TellsMembers before.world) (sym facts) known.members);
+    })
+
+-- ---- a record in the place of another
+
+put_by : (path bytes : List ℕ) (file : File) (files : List File) (o : Ordering) → path_cmp path file.0 ≡ o
+    → put_file path bytes (file ∷ files) ≡ match_ordering o ((path, bytes) ∷ file ∷ files) ((path, bytes) ∷ files) (file ∷ put_file path bytes files)
+put_by path bytes file files o is = ap (λ c. match_ordering c ((path, bytes) ∷ file ∷ files) ((path, bytes) ∷ files) (file ∷ put_file path bytes files)) is
+
+before_here : (p path : List ℕ) (project : List File) (i : ℕ) → IsBeforeAll p project → slice_get (map path_of_file project) i ≡ Some path
+    → path_cmp p path ≡ Less
+before_here p path [] i all here = absurd cc
+before_here p path (file ∷ project) zero all here = subst (λ q. path_cmp p q ≡ Less) (same_Some file.0 path here) all.0
+before_here p path (file ∷ project) (suc i) all here = before_here p path project i all.1 here
+
+-- a file is put at the index at which its path stands
+put_at : (path bytes : List ℕ) (project : List File) (i : ℕ) → IsProject project → slice_get (map path_of_file project) i ≡ Some path
+    → put_file path bytes project ≡ set_value project i bytes
+put_at path bytes [] i ordered here = absurd cc
+put_at path bytes (file ∷ project) zero ordered here =
+    let same = same_Some file.0 path here in
+    put_by path bytes file project Equal (ap (λ p. path_cmp path p) same ∙ cmp_same path) ∙ ap (λ p. (p, bytes) ∷ project) (sym same)
+put_at path bytes (file ∷ project) (suc i) ordered here =
+    put_by path bytes file project Greater (turned file.0 path Less (before_here file.0 path project i ordered.0 here))
+    ∙ ap (λ files. file ∷ files) (put_at path bytes project i ordered.1 here)
+
+paths-set_value : (project : List File) (i : ℕ) (bytes : List ℕ) → map path_of_file (set_value project i bytes) ≡ map path_of_file project
+paths-set_value [] i bytes = refl
+paths-set_value (file ∷ project) zero bytes = refl
+paths-set_value (file ∷ project) (suc i) bytes = ap (λ paths. file.0 ∷ paths) (paths-set_value project i bytes)
+
+records-set_value : (project : List File) (i : ℕ) (bytes : List ℕ)
+    → map record_of_file (set_value project i bytes) ≡ slice_set (map record_of_file project) i (loaded bytes)
+records-set_value [] i bytes = refl
+records-set_value (file ∷ project) zero bytes = refl
+records-set_value (file ∷ project) (suc i) bytes = ap (λ records. loaded file.1 ∷ records) (records-set_value project i bytes)
+
+pub AreRecords-set : (records : List FileRec) (i : ℕ) (r : FileRec) → AreRecords records → IsLoaded r → AreRecords (slice_set records i r)
+AreRecords-set [] i r all one = AreRecords.NoRecord
+AreRecords-set (first ∷ records) zero r (AreRecords.MoreRecords f rs one_first rest) one = AreRecords.MoreRecords r records one rest
+AreRecords-set (first ∷ records) (suc i) r (AreRecords.MoreRecords f rs one_first rest) one =
+    AreRecords.MoreRecords first (slice_set records i r) one_first (AreRecords-set records i r rest one)
+
+-- the job of a project with another record of the file at a path
+pub job_put : (project : List File) (path bytes : List ℕ) (i : ℕ) (r : FileRec) (before job : Known) → IsProject project → IsJobOf project before
+    → slice_get before.files.paths i ≡ Some path → r ≡ loaded bytes → project_facts (put_file path bytes project) ≡ project_facts project
+    → job ≡ record before { files = record before.files { records = slice_set before.files.records i r } } → IsJobOf (put_file path bytes project) job
+job_put project path bytes i r before job ordered known here loads facts is =
+    let put = put_at path bytes project i ordered (ap (λ paths. slice_get paths i) (sym known.files.paths) ∙ here) in
+    subst (IsJobOf (put_file path bytes project)) (sym is) (record {
+      files = record {
+        paths = known.files.paths ∙ sym (ap (map path_of_file) put ∙ paths-set_value project i bytes);
+        records = ap (λ records. slice_set records i r) known.files.records ∙ ap (slice_set (map record_of_file project) i) loads
+            ∙ sym (ap (map record_of_file) put ∙ records-set_value project i bytes);
+      };
+      table = subst (Stands before.world) (sym facts) known.table;
+      members = subst (TellsMembers before.world) (sym facts) known.members;
     })
 
 -- ---- the facts that files declare

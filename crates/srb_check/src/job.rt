@@ -1,6 +1,6 @@
-ghost use Rattle.std.specs.Prelude.{◌≡◌, ◌↔◌, ◌+◌, ℕ, List, [], length, map, slice_get, IsTrue, IfOk, IfSome};
+ghost use Rattle.std.specs.Prelude.{◌≡◌, ◌↔◌, ◌+◌, ℕ, List, [], length, map, slice_get, Some, IsTrue, IsFalse, IfOk, IfSome};
 ghost use Rattle.std.specs.Option.{option_copied, option_map};
-ghost use Rattle.srb_terms.specs.Projects.{File, IsProject, bytes_at};
+ghost use Rattle.srb_terms.specs.Projects.{File, IsProject, bytes_at, put_file};
 ghost use Rattle.srb_check.specs.Checks.{fresh, fresh_of};
 ghost use Rattle.srb_check.specs.FactLists.{same_facts};
 ghost use Rattle.srb_check.specs.Jobs.{AreRecords, IsJobOf, IsJobWith, IsLoaded, bytes_of_file, facts_by, path_of_file};
@@ -105,6 +105,33 @@ impl Job {
         }
     }
 
+    /// A copy, which shares the symbol table, the paths and the records. It takes memory for their lists.
+    pub fn copied(&self, alloc: Global) -> Result<Job, NoMemory>
+        ensures { IfOk result (λ job. job ≡ self.now) }
+    {
+        Ok(Job {
+            world: self.world()?,
+            paths: copied_paths(alloc, self.paths.as_slice())?,
+            records: copied_records(alloc, self.records.as_slice())?,
+        })
+    }
+
+    /// Puts the record of a file in the place of the one that the job has at its path, and answers whether it has one. It takes no memory, and
+    /// the symbol table stays, which is theirs where the file declares the same as before.
+    pub fn put(&mut self, path: &Name, file: Boxed<FileRec>) -> bool
+        requires { IsLoaded file }
+        ensures put { (project : List File) (bytes : List ℕ) → IsProject project → IsJobOf project self.old → file ≡ loaded bytes
+            → project_facts (put_file path.now bytes project) ≡ project_facts project → IsTrue result → IsJobOf (put_file path.now bytes project) self.new }
+        ensures absent { IsFalse result → self.new ≡ self.old }
+    {
+        let index = place(self.paths.as_slice(), path);
+        if index >= self.records.len() || !stands_at(self.paths.as_slice(), index, path) {
+            return false;
+        }
+        self.records.set(index, file);
+        true
+    }
+
     /// The number of files.
     pub fn len(&self) -> usize
         ensures { result ≡ length self.now.files.paths }
@@ -191,6 +218,16 @@ fn place(paths: &[Name], path: &Name) -> usize
     found.unwrap_or(paths.len())
 }
 
+/// Whether the path stands at the index.
+fn stands_at(paths: &[Name], index: usize, path: &Name) -> bool
+    ensures { IsTrue result → slice_get paths.now index ≡ Some path.now }
+{
+    match paths.get(index) {
+        Some(other) => other.is_same(path),
+        None => false,
+    }
+}
+
 /// The same index, which is `near` for most files of two projects that few edits part.
 fn place_near(paths: &[Name], path: &Name, near: usize) -> usize
     ensures { (project : List File) → IsProject project → paths.now ≡ map path_of_file project → option_map bytes_of_file (slice_get project result) ≡ bytes_at path.now project }
@@ -205,6 +242,29 @@ fn place_near(paths: &[Name], path: &Name, near: usize) -> usize
         }
         None => place(paths, path),
     }
+}
+
+fn copied_paths(alloc: Global, paths: &[Name]) -> Result<Items<Name>, NoMemory>
+    ensures { IfOk result (λ list. list ≡ paths.now) }
+{
+    let mut list = Vec::with_capacity(alloc, paths.len())?;
+    'paths: for path in paths {
+        list.push(path.copied()?)?;
+    }
+    Ok(Items::from_vec(list))
+}
+
+fn copied_records(
+    alloc: Global,
+    records: &[Boxed<FileRec>],
+) -> Result<Items<Boxed<FileRec>>, NoMemory>
+    ensures { IfOk result (λ list. list ≡ records.now) }
+{
+    let mut list = Vec::with_capacity(alloc, records.len())?;
+    'records: for record in records {
+        list.push(record.copied()?)?;
+    }
+    Ok(Items::from_vec(list))
 }
 
 /// Whether a record has a text of these bytes.

@@ -1,0 +1,5 @@
+//! What edits leave of documents: tests alone, above the crate that they try, so that it isn't proved once more with its tests.
+#![tactic(auto)]
+
+#[cfg(test)]
+mod documents;

@@ -1,5 +1,0 @@
-use Rattle.run_session_tests.proofs.landing.errors_of_an_older_build_are_thrown_away.Given as goal
-
--- the ledger is the blank's
-abbrev pub ghosts-of_an_older_build : goal.ghosts-of_an_older_build
-ghosts-of_an_older_build g a = record { name = a.blank.name; parts = a.blank.parts }
