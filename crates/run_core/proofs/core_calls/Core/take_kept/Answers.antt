@@ -11,17 +11,16 @@ use Rattle.run_core.proofs.Loading.{rows_project}
 use Rattle.run_core.proofs.SinceBuild.{since_edited}
 use Rattle.run_core.proofs.core_calls.Core.take_kept.Goals as goal
 
-pub edited_job-requires-clause-others : goal.edited_job-requires-clause-others
-edited_job-requires-clause-others c =
+pub edit_job-requires-clause-others : goal.edit_job-requires-clause-others
+edit_job-requires-clause-others c =
     λ f bytes differs is.
     let i = c.self.inside in
-    subst (IsJobWith f bytes) (sym c.get.ensures)
-    (edited_others i.docs c.args.docs c.args.path.now f bytes i.job
+    edited_others i.docs c.args.docs c.args.path.now f bytes i.job
     (subst (λ (a : Account). IsEdited a.state.session.documents c.args.docs c.args.path.now) (sym c.self.view_is) c.requires.edited)
     (rows_project i.rows.entries i.docs.project c.reserve.ensures.ordered c.self.invariant.core.paths)
     (serving_built i.phase i.docs i.stale i.rows.entries i.job (ap (λ (a : Account). a.state.session.phase) c.self.view_is ∙ c.requires.phase)
     (ap (λ (a : Account). a.state.stale) c.self.view_is ∙ c.requires.built) c.self.invariant.core)
-    differs is)
+    differs is
 
 pub invariant_of-self-2 : goal.invariant_of-self-2
 invariant_of-self-2 c =
