@@ -258,6 +258,13 @@ edited_facts d new f edited order keeps =
     ∙ kept_facts d.project edited.edit.path edited.edit.now order
     ((same_facts-decides _ _).0 (sym (keeps-at d.project edited.edit) ∙ sym (λ i. keeps_at (edited.named i) d.project (edited.done i).project) ∙ keeps))
 
+pub edited_project : (d new : Documents) (f : Path) → IsEdited d new f → new.project ≡ with_bytes f (bytes_at f new.project) d.project
+edited_project d new f edited =
+    let now = ap (λ (x : Documents). x.project) edited.done in
+    now
+    ∙ ap (λ g. with_bytes g edited.edit.now d.project) (sym edited.named)
+    ∙ ap (λ o. with_bytes f o d.project) (sym ((λ i. bytes_at (edited.named i) (now i)) ∙ here edited.edit.path edited.edit.now d.project))
+
 pub edited_others : (d new : Documents) (f g : Path) (bytes : Bytes) (job : Known) → IsEdited d new f → IsProject d.project → IsJobOf d.project job
     → g ≢ f → bytes_at g new.project ≡ Some bytes → IsJobWith g bytes job
 edited_others d new f g bytes job edited order known differs is = record {

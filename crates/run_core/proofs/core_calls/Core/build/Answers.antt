@@ -12,13 +12,13 @@ use Rattle.run_core.proofs.core_calls.Core.build.Goals as goal
 pub invariant_of-self : goal.invariant_of-self
 invariant_of-self c =
     let i = c.self.inside in
-    let known = subst (IsJobOf i.docs.project) (sym c.in_ok-job.ensures) c.in_ok-built.ensures.job in
+    let known = c.in_ok-job.ensures.job in
     record {
       core = subst (λ rows. IsCore i.phase i.docs false rows c.in_ok-job.job) (sym c.build.ensures.entries)
           (built_core _ _ _ _ _ _ c.self.invariant.core (ap (λ (a : Account). a.state.stale) c.self.view_is ∙ c.requires.stale) known);
       since = λ begun fresh.
           since_built i.docs c.build.new.self.entries c.in_ok-last.last (rows_project i.rows.entries i.docs.project c.build.ensures.ordered c.self.invariant.core.paths)
-          (subst (IsJobOf i.docs.project) (sym c.in_ok-last.ensures) known);
+          (subst (IsJobOf i.docs.project) (sym (c.in_ok-last.ensures ∙ c.in_ok-copied.ensures)) known);
     }
 
 pub returns-clause-makes : goal.returns-clause-makes

@@ -6,7 +6,7 @@ use Rattle.srb_check.specs.Records.{loaded}
 use Rattle.run_core.specs.Rows.{after_edited}
 use Rattle.run_core.specs.Machine.{project_of}
 use Rattle.run_core.specs.Cores.{Account, IsEdited, after_edit_at, keeps_at}
-use Rattle.run_core.proofs.CoreSteps.{edited_facts, edited_others, kept_core, kept_state, serving_built, some_loaded}
+use Rattle.run_core.proofs.CoreSteps.{edited_facts, edited_others, edited_project, kept_core, kept_state, serving_built, some_loaded}
 use Rattle.run_core.proofs.Loading.{rows_project}
 use Rattle.run_core.proofs.SinceBuild.{since_edited}
 use Rattle.run_core.proofs.core_calls.Core.take_kept.Goals as goal
@@ -29,14 +29,15 @@ invariant_of-self-2 c =
     let serving = ap (λ (a : Account). a.state.session.phase) c.self.view_is ∙ c.requires.phase in
     let known = serving_built i.phase i.docs i.stale i.rows.entries i.job serving (ap (λ (a : Account). a.state.stale) c.self.view_is ∙ c.requires.built) c.self.invariant.core in
     let keeps = ap (λ (a : Account). keeps_at c.args.path.now (project_of a.state) c.args.docs.project) c.self.view_is ∙ c.requires.kept in
-    let facts = edited_facts i.docs c.args.docs c.args.path.now edited (rows_project i.rows.entries i.docs.project c.reserve.ensures.ordered c.self.invariant.core.paths) keeps in
+    let order = rows_project i.rows.entries i.docs.project c.reserve.ensures.ordered c.self.invariant.core.paths in
+    let facts = edited_facts i.docs c.args.docs c.args.path.now edited order keeps in
     let left = c.edit.ensures.entries ∙ (λ k. after_edited (c.in_ok-name.ensures k) c.is_some.result true (c.reserve.ensures.entries k)) in
     record {
-      core = kept_core i.phase i.docs c.args.docs i.stale i.rows.entries c.edit.new.self.entries i.job c.in_ok-job.job c.args.path.now c.is_some.result
+      core = kept_core i.phase i.docs c.args.docs i.stale i.rows.entries c.edit.new.self.entries i.job c.edit_job.new.job c.args.path.now c.is_some.result
           serving edited c.reserve.ensures.ordered c.self.invariant.core
           (c.is_some.ensures ∙ ap is_some c.requires.file ∙ some_loaded loaded (bytes_at c.args.path.now c.args.docs.project))
           left
-          (subst (IsJobOf c.args.docs.project) (sym c.in_ok-job.ensures) (c.in_ok-edited.ensures i.docs.project (subst (IsJobOf i.docs.project) (sym c.get.ensures) known) facts));
+          (c.edit_job.ensures.edited i.docs.project order (edited_project i.docs c.args.docs c.args.path.now edited) known facts);
       since = λ begun fresh.
           since_edited i.docs c.args.docs i.rows.entries c.edit.new.self.entries i.last c.args.path.now c.is_some.result edited c.reserve.ensures.ordered facts left
           (c.self.invariant.since begun fresh);
