@@ -307,6 +307,7 @@ pub fn inside<W: Walk, L: Language>(
 }
 
 /// The type of a name: of a variable where it is one, and else of a call on `self`.
+#[inline(never)]
 pub fn named<L: Language>(
     alloc: Global,
     language: &L,
@@ -325,6 +326,7 @@ pub fn named<L: Language>(
 }
 
 /// The type of a name that is no variable: of a call on `self`.
+#[inline(never)]
 fn self_named<L: Language>(
     alloc: Global,
     language: &L,
@@ -352,6 +354,7 @@ fn self_named<L: Language>(
 }
 
 /// Judges a constant that stands alone.
+#[inline(never)]
 fn constant<L: Language>(
     alloc: Global,
     language: &L,

@@ -1,4 +1,4 @@
-//! Contexts with further visible variables.
+//! Contexts with further visible variables. What makes them is never inlined: each level of a nested tree holds the frames of what judges it.
 
 ghost use Rattle.std.specs.Prelude.{◌≡◌, false, map, IfOk, OnOk};
 ghost use Rattle.srb_judgement.specs.Blocks.{placed_name};
@@ -65,6 +65,7 @@ impl Beside {
     }
 
     /// Makes what a tree assigns visible too.
+#[inline(never)]
     pub fn see<L: Language>(
         &mut self,
         alloc: Global,
@@ -81,6 +82,7 @@ impl Beside {
 }
 
 /// What is around where these variables are visible too.
+#[inline(never)]
 pub fn with_names(alloc: Global, context: &Context, names: &[Name]) -> Result<Beside, NoMemory>
     ensures { IfOk result (λ b. seen_beside b (seen_context context.now) ≡ seeing names.now (seen_context context.now)) }
 {
@@ -90,6 +92,7 @@ pub fn with_names(alloc: Global, context: &Context, names: &[Name]) -> Result<Be
 }
 
 /// What is around after a tree.
+#[inline(never)]
 pub fn after<L: Language>(
     alloc: Global,
     language: &L,

@@ -341,6 +341,7 @@ pub fn modified_if<W: Walk, L: Language>(
 }
 
 /// No branch yet, of a `case` that begins in the state's environment.
+#[inline(never)]
 pub fn no_branches<L: Language>(
     alloc: Global,
     language: &L,
