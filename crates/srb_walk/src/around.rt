@@ -65,7 +65,7 @@ impl Beside {
     }
 
     /// Makes what a tree assigns visible too.
-#[inline(never)]
+    #[inline(never)]
     pub fn see<L: Language>(
         &mut self,
         alloc: Global,
