@@ -1,12 +1,14 @@
 -- The order of a project's files, and the files that a build loads one after the other.
-use Rattle.std.proofs.Common.{◌≡◌, ℕ, zero, suc, ◌+◌, List, [], ◌∷◌, ◌++◌, take, sym, ap, ◌∙◌, subst, add-one, arith}
-use Rattle.std.specs.Prelude.{Some, unwrap_or}
+use Rattle.std.proofs.Common.{◌≡◌, ℕ, zero, suc, ◌+◌, List, [], ◌∷◌, ◌++◌, take, refl, sym, ap, ◌∙◌, subst, add-one, arith}
+use Rattle.std.specs.Prelude.{Option, None, Some, unwrap_or}
 use Rattle.std.specs.List.{slice_get}
 use Rattle.std.specs.Option.{option_map}
 use Rattle.srb_terms.specs.PathMaps.{IsBeforeAll, IsOrdered}
 use Rattle.srb_terms.specs.Projects.{bytes_at, IsProject}
 use Rattle.srb_terms.proofs.PathOrder.{value_at-here}
+use Rattle.srb_check.specs.declared.file.FileRec.{FileRec}
 use Rattle.srb_check.specs.Jobs.{bytes_of_file}
+use Rattle.srb_check.specs.Records.{loaded}
 use Rattle.lsp_docs.specs.Paths.{Path, Bytes}
 use Rattle.lsp_docs.specs.Projects.{Project, paths_of}
 use Rattle.run_core.specs.declared.mark.Mark.TheVariants.{Present}
@@ -16,6 +18,11 @@ use Rattle.run_core.proofs.NextFile.{AreSorted, marked-sorted}
 
 pub some_same : {X : Type 0} {x y : X} → Some x ≡ Some y → x ≡ y
 some_same {X} {x} same = ap (λ o. unwrap_or o x) same
+
+-- a record that is that of some bytes, if there are any
+pub loaded_some : (o : Option Bytes) (r : FileRec) → Some r ≡ option_map loaded o → (bytes : Bytes) × (o ≡ Some bytes) × (r ≡ loaded bytes)
+loaded_some None r is = absurd cc
+loaded_some (Some b) r is = (b, refl, some_same is)
 
 -- ---- the files of a project stand in the order of the rows
 

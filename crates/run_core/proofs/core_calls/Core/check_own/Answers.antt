@@ -4,7 +4,6 @@ use Rattle.std.specs.List.{slice_get}
 use Rattle.srb_terms.specs.PathMaps.{PathList}
 use Rattle.srb_terms.specs.Projects.{IsProject}
 use Rattle.srb_check.specs.Checks.{fresh}
-use Rattle.srb_check.specs.Jobs.{IsJobOf}
 use Rattle.run_core.specs.declared.row.Row.{Row}
 use Rattle.run_core.specs.declared.mark.Mark.TheVariants.{Todo}
 use Rattle.run_core.specs.Rows.{marked}
@@ -54,7 +53,7 @@ returns-clause-lands g c =
     let own = ap (λ (a : Account). has_own a.state) c.self.view_is ∙ c.requires in
     let built = own_built i.docs i.phase i.rows.entries i.epoch i.stale i.seen i.owing i.ended c.self.invariant.core own in
     let ordered : IsProject i.docs.project = rows_project i.rows.entries i.docs.project c.in_ok-landed.ensures.ordered c.self.invariant.core.paths in
-    let found = c.in_ok-list.ensures.list i.docs.project ordered (subst (IsJobOf i.docs.project) (sym c.get.ensures) built) ∙ ap (fresh i.docs.project) c.path.ensures in
+    let found = c.in_ok-list.ensures.list i.docs.project ordered built ∙ ap (fresh i.docs.project) c.path.ensures in
     let lands = worked_lands i.docs i.phase i.rows.entries c.work_in.new.rows.entries i.epoch i.stale i.seen i.owing i.ended c.next_row-index.result row c.in_ok-list.list c.in_ok-landed.landed
     c.self.invariant.core c.in_ok-landed.ensures.ordered own c.next_row-index.ensures c.row-file.ensures found (c.in_ok-landed.ensures.works row c.row-file.ensures) in
     subst (λ (a : Account). Lands a.state (state_of i.docs i.phase c.work_in.new.rows.entries i.epoch i.stale false i.owing i.ended) c.in_ok-landed.landed) c.self.view_is lands

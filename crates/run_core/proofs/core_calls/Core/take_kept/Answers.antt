@@ -37,7 +37,7 @@ invariant_of-self-2 c =
           serving edited c.reserve.ensures.ordered c.self.invariant.core
           (c.is_some.ensures ∙ ap is_some c.requires.file ∙ some_loaded loaded (bytes_at c.args.path.now c.args.docs.project))
           left
-          (c.edit_job.ensures.edited i.docs.project order (edited_project i.docs c.args.docs c.args.path.now edited) known facts);
+          (c.in_ok-edit_job.ensures.edited i.docs.project order (edited_project i.docs c.args.docs c.args.path.now edited) known facts);
       since = λ begun fresh.
           since_edited i.docs c.args.docs i.rows.entries c.edit.new.self.entries i.last c.args.path.now c.is_some.result edited c.reserve.ensures.ordered facts left
           (c.self.invariant.since begun fresh);
