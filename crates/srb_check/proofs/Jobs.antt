@@ -1,19 +1,16 @@
 -- Files that were loaded, and where a path stands among them.
-use Rattle.std.proofs.Common.{◌≡◌, ℕ, zero, suc, ◌<◌, ◌≤◌, ◌++◌, Bool, true, false, if◌then◌else◌, List, [], ◌∷◌, map, length, get_or, Option, Some, None, Result, Ok, Err, bytes_eq, refl, ap, sym, subst, ◌∙◌, arith, ⊎_elim, encode_utf8_all}
+use lib.ListN.{get_or-map}
+use Rattle.std.proofs.Common.{◌≡◌, ℕ, zero, suc, ◌<◌, ◌≤◌, ◌++◌, List, [], ◌∷◌, map, length, get_or, Option, Some, None, Result, Ok, Err, refl, ap, sym, subst, ◌∙◌, arith, encode_utf8_all}
 use Rattle.std.specs.List.{slice_get, slice_set}
 use Rattle.std.specs.Result.{result_unwrap_or}
 use Rattle.std.specs.Option.{option_map}
-use Rattle.std.specs.Cmp.Lexicographic.{nat_list_cmp_total, texts_ties}
-use Rattle.std.specs.Ordering.{is_eq, match_ordering, ordering_index, ordering_reverse}
-use Rattle.std.specs.declared.cmp.Ordering.{Ordering}
-use Rattle.std.specs.declared.cmp.Ordering.TheVariants.{Less, Equal, Greater}
-use Rattle.std.specs.List.Sorted.{IsBinarySearchResult, IsNonDecreasingBy, IsSearchInRange}
-use Rattle.std.proofs.lemmas.Bool.{cases_lt}
+use Rattle.std.specs.Ordering.{ordering_index}
+use Rattle.std.specs.List.Sorted.{IsBinarySearchResult, IsSearchInRange}
 use Rattle.std.proofs.lemmas.List.{length-map, map-append}
-use Rattle.std.proofs.lemmas.Slice.Eq.{bytes_eq-Decides}
 use Rattle.std.proofs.lemmas.Option.{same_Some, slice_get-map, slice_get_past}
-use Rattle.srb_terms.specs.PathMaps.{IsBeforeAll, path_cmp, set_value}
+use Rattle.srb_terms.specs.PathMaps.{IsEntryOf, path_cmp, set_value}
 use Rattle.srb_terms.specs.Projects.{File, IsProject, bytes_at, put_file}
+use Rattle.srb_terms.proofs.PathOrder.{absent_place, entry_read, found_entry, put_value-here, set_value-is, value_at-absent, value_at-here}
 use Rattle.srb_terms.specs.declared.fact.Fact.{Fact}
 use Rattle.srb_terms.specs.declared.world.World.{World}
 use Rattle.srb_builtin.specs.Table.{built_in}
@@ -49,88 +46,37 @@ summaries-facts [] = refl
 summaries-facts (file ∷ project) = (λ i. loaded_facts file.1 i ∷ summaries-facts project i)
 
 -- ---- where a path stands
-turned : (p q : List ℕ) (o : Ordering) → path_cmp p q ≡ o → path_cmp q p ≡ ordering_reverse o
-turned p q o is = nat_list_cmp_total.antisymm q p ∙ ap ordering_reverse is
 
-same_path : (p q : List ℕ) → path_cmp p q ≡ Equal → p ≡ q
-same_path p q is = (bytes_eq-Decides p q).0 (texts_ties p q ∙ ap is_eq is)
+path_entry : (path : List ℕ) (project : List File) (i : ℕ) → slice_get (map path_of_file project) i ≡ Some path → IsEntryOf path project i
+path_entry path [] i here = absurd cc
+path_entry path (file ∷ project) zero here = (file.1, ap (λ p. Some (p, file.1)) (same_Some file.0 path here))
+path_entry path (file ∷ project) (suc i) here = path_entry path project i here
 
-is_eq-reverse : (o : Ordering) → is_eq (ordering_reverse o) ≡ is_eq o
-is_eq-reverse Less = refl
-is_eq-reverse Equal = refl
-is_eq-reverse Greater = refl
-
-bytes_eq-turned : (p q : List ℕ) (o : Ordering) → path_cmp q p ≡ o → bytes_eq p q ≡ is_eq o
-bytes_eq-turned p q o is = texts_ties p q ∙ ap is_eq (turned q p o is) ∙ is_eq-reverse o
-
-abbrev path_at : List File → ℕ → List ℕ → List ℕ
-path_at project i d = get_or (map path_of_file project) i d
-
-before_at : (p : List ℕ) (project : List File) (i : ℕ) (d : List ℕ) → IsBeforeAll p project → i < length (map path_of_file project)
-    → path_cmp p (path_at project i d) ≡ Less
-before_at p [] i d all within = absurd (omega (arith, within))
-before_at p (file ∷ project) zero d all within = all.0
-before_at p (file ∷ project) (suc i) d all within = before_at p project i d all.1 (omega (arith, within))
-
-chosen : (path : List ℕ) (file : File) (files : List File) (b : Bool) → bytes_eq path file.0 ≡ b
-    → bytes_at path (file ∷ files) ≡ (if b then Some file.1 else bytes_at path files)
-chosen path file files b is = ap (λ c. if c then Some file.1 else bytes_at path files) is
-
-pub found_at : (path : List ℕ) (project : List File) (i : ℕ) → IsProject project → i < length (map path_of_file project)
-    → path_cmp (path_at project i path) path ≡ Equal → option_map bytes_of_file (slice_get project i) ≡ bytes_at path project
-found_at path [] i ordered within same = absurd (omega (arith, within))
-found_at path (file ∷ project) zero ordered within same = sym (chosen path file project true (bytes_eq-turned path file.0 Equal same))
-found_at path (file ∷ project) (suc i) ordered within same =
-    let before : path_cmp file.0 (path_at project i path) ≡ Less = before_at file.0 project i path ordered.0 (omega (arith, within)) in
-    let less : path_cmp file.0 path ≡ Less = subst (λ p. path_cmp file.0 p ≡ Less) (same_path (path_at project i path) path same) before in
-    found_at path project i ordered.1 (omega (arith, within)) same ∙ sym (chosen path file project false (bytes_eq-turned path file.0 Less less))
-
-cmp_same : (p : List ℕ) → path_cmp p p ≡ Equal
-cmp_same p = equal (path_cmp p p) (sym (texts_ties p p) ∙ (bytes_eq-Decides p p).1 refl)
-  where
-    equal : (o : Ordering) → is_eq o ≡ true → o ≡ Equal
-    equal Less is = absurd cc
-    equal Equal is = refl
-    equal Greater is = absurd cc
+entry_tells : (path : List ℕ) (project : List File) (i : ℕ) → IsProject project → IsEntryOf path project i
+    → option_map bytes_of_file (slice_get project i) ≡ bytes_at path project
+entry_tells path project i ordered entry = ap (option_map bytes_of_file) entry.1 ∙ sym (value_at-here path project i entry.0 ordered entry.1)
 
 -- a path that stands at an index tells its bytes
 pub index_tells : (path : List ℕ) (project : List File) (paths : List (List ℕ)) (i : ℕ) → IsProject project → paths ≡ map path_of_file project
     → i < length paths → path ≡ get_or paths i path → option_map bytes_of_file (slice_get project i) ≡ bytes_at path project
 index_tells path project paths i ordered are within here =
-    found_at path project i ordered (subst (λ ps. i < length ps) are within)
-    (ap (λ p. path_cmp p path) (sym (here ∙ ap (λ ps. get_or ps i path) are)) ∙ cmp_same path)
+    entry_tells path project i ordered (path_entry path project i (ap (λ ps. slice_get ps i) (sym are) ∙ entry_read paths i path within here))
 
-lower : (path p q : List ℕ) (o : Ordering) → path_cmp p q ≡ Less → path_cmp q path ≡ o → ordering_index (path_cmp p path) ≤ ordering_index o
-lower path p q Less less is =
-    let first : path_cmp p path ≡ Less = nat_list_cmp_total.trans p q path less is in
-    rw first (omega arith)
-lower path p q Equal less is =
-    let first : path_cmp p path ≡ Less = ap (path_cmp p) (sym (same_path q path is)) ∙ less in
-    rw first (omega arith)
-lower path p q Greater less is = most (path_cmp p path)
-  where
-    most : (o : Ordering) → ordering_index o ≤ 2
-    most Less = omega arith
-    most Equal = omega arith
-    most Greater = omega arith
-
-paths_rise : (path : List ℕ) (project : List File) → IsProject project
-    → IsNonDecreasingBy (λ (y : List ℕ). ordering_index (path_cmp y path)) (map path_of_file project)
-paths_rise path [] ordered i j d le within = absurd (omega (arith, within))
-paths_rise path (file ∷ project) ordered zero zero d le within = omega arith
-paths_rise path (file ∷ project) ordered zero (suc j) d le within =
-    lower path file.0 (path_at project j d) (path_cmp (path_at project j d) path) (before_at file.0 project j d ordered.0 (omega (arith, within))) refl
-paths_rise path (file ∷ project) ordered (suc i) zero d le within = absurd (omega (arith, le))
-paths_rise path (file ∷ project) ordered (suc i) (suc j) d le within =
-    paths_rise path project ordered.1 i j d (omega (arith, le)) (omega (arith, within))
-
-absent_at : (path : List ℕ) (project : List File)
-    → ((k : ℕ) (d : List ℕ) → k < length (map path_of_file project) → is_eq (path_cmp (path_at project k d) path) ≡ false)
-    → bytes_at path project ≡ None
-absent_at path [] each = refl
-absent_at path (file ∷ project) each =
-    chosen path file project false (bytes_eq-turned path file.0 (path_cmp file.0 path) refl ∙ each zero path (omega arith))
-    ∙ absent_at path project (λ k d within. each (suc k) d (omega (arith, within)))
+-- a search among the paths is one among the files
+searched : (path : List ℕ) (project : List File) (found : Result ℕ ℕ) → IsBinarySearchResult (λ (y : List ℕ). path_cmp y path) (map path_of_file project) found
+    → IsBinarySearchResult (λ (file : File). path_cmp file.0 path) project found
+searched path project (Ok i) same = λ file. ap (λ p. path_cmp p path) (sym (get_or-map path_of_file project i file)) ∙ same file.0
+searched path project (Err i) apart =
+    λ rise.
+    let count = length-map project path_of_file in
+    let at : (k : ℕ) (file : File) → path_cmp (get_or (map path_of_file project) k file.0) path ≡ path_cmp (get_or project k file).0 path =
+        λ k file. ap (λ p. path_cmp p path) (get_or-map path_of_file project k file) in
+    let point = apart (λ a b p le within.
+        let first = ap ordering_index (at a (p, [])) in
+        let second = ap ordering_index (at b (p, [])) in
+        let rises = rise a b (p, []) le (omega (arith, within, count)) in
+        omega (arith, rises, first, second)) in
+    (λ k file low less. sym (at k file) ∙ point.0 k file.0 low less, λ k file low less. sym (at k file) ∙ point.1 k file.0 low (omega (arith, less, count)))
 
 past : {X Y : Type 0} (f : X → Y) (xs : List X) (n : ℕ) → length xs ≤ n → option_map f (slice_get xs n) ≡ None
 past f xs n out = ap (option_map f) (slice_get_past xs n out)
@@ -140,19 +86,18 @@ pub place_tells : (path : List ℕ) (project : List File) (paths : List (List �
     → paths ≡ map path_of_file project → IsSearchInRange found (length paths) → IsBinarySearchResult (λ (y : List ℕ). path_cmp y path) paths found
     → option_map bytes_of_file (slice_get project (result_unwrap_or found (length paths))) ≡ bytes_at path project
 place_tells path project paths found ordered are range is =
-    by_answer found (subst (λ ps. IsSearchInRange found (length ps)) are range) (subst (λ ps. IsBinarySearchResult (λ (y : List ℕ). path_cmp y path) ps found) are is)
+    by_answer found (subst (IsSearchInRange found) count range)
+    (searched path project found (subst (λ ps. IsBinarySearchResult (λ (y : List ℕ). path_cmp y path) ps found) are is))
   where
     count : length paths ≡ length project
     count = ap length are ∙ length-map project path_of_file
 
-    by_answer : (r : Result ℕ ℕ) → IsSearchInRange r (length (map path_of_file project)) → IsBinarySearchResult (λ (y : List ℕ). path_cmp y path) (map path_of_file project) r
+    by_answer : (r : Result ℕ ℕ) → IsSearchInRange r (length project) → IsBinarySearchResult (λ (file : File). path_cmp file.0 path) project r
         → option_map bytes_of_file (slice_get project (result_unwrap_or r (length paths))) ≡ bytes_at path project
-    by_answer (Ok i) within same = found_at path project i ordered within (same path)
+    by_answer (Ok i) within same = entry_tells path project i ordered (found_entry path project (Ok i) within same)
     by_answer (Err i) within apart =
-        let point = apart (paths_rise path project ordered) in
         past bytes_of_file project (length paths) (omega (arith, count))
-        ∙ sym (absent_at path project (λ k d less.
-        ⊎_elim (λ (low : k < i). ap is_eq (point.0 k d (omega arith) low)) (λ (high : i ≤ k). ap is_eq (point.1 k d high less)) (cases_lt k i)))
+        ∙ sym (value_at-absent path project i (absent_place path project (Err i) ordered within apart))
 
 -- ---- the record at an index
 pub record_at : (project : List File) (records : List FileRec) (i : ℕ) (r : FileRec) → records ≡ map record_of_file project
@@ -226,27 +171,6 @@ job_again project old self held world before job are known facts same table is =
 
 -- ---- a record in the place of another
 
-put_by : (path bytes : List ℕ) (file : File) (files : List File) (o : Ordering) → path_cmp path file.0 ≡ o
-    → put_file path bytes (file ∷ files) ≡ match_ordering o ((path, bytes) ∷ file ∷ files) ((path, bytes) ∷ files) (file ∷ put_file path bytes files)
-put_by path bytes file files o is = ap (λ c. match_ordering c ((path, bytes) ∷ file ∷ files) ((path, bytes) ∷ files) (file ∷ put_file path bytes files)) is
-
-before_here : (p path : List ℕ) (project : List File) (i : ℕ) → IsBeforeAll p project → slice_get (map path_of_file project) i ≡ Some path
-    → path_cmp p path ≡ Less
-before_here p path [] i all here = absurd cc
-before_here p path (file ∷ project) zero all here = subst (λ q. path_cmp p q ≡ Less) (same_Some file.0 path here) all.0
-before_here p path (file ∷ project) (suc i) all here = before_here p path project i all.1 here
-
--- a file is put at the index at which its path stands
-put_at : (path bytes : List ℕ) (project : List File) (i : ℕ) → IsProject project → slice_get (map path_of_file project) i ≡ Some path
-    → put_file path bytes project ≡ set_value project i bytes
-put_at path bytes [] i ordered here = absurd cc
-put_at path bytes (file ∷ project) zero ordered here =
-    let same = same_Some file.0 path here in
-    put_by path bytes file project Equal (ap (λ p. path_cmp path p) same ∙ cmp_same path) ∙ ap (λ p. (p, bytes) ∷ project) (sym same)
-put_at path bytes (file ∷ project) (suc i) ordered here =
-    put_by path bytes file project Greater (turned file.0 path Less (before_here file.0 path project i ordered.0 here))
-    ∙ ap (λ files. file ∷ files) (put_at path bytes project i ordered.1 here)
-
 paths-set_value : (project : List File) (i : ℕ) (bytes : List ℕ) → map path_of_file (set_value project i bytes) ≡ map path_of_file project
 paths-set_value [] i bytes = refl
 paths-set_value (file ∷ project) zero bytes = refl
@@ -269,7 +193,8 @@ pub job_put : (project : List File) (path bytes : List ℕ) (i : ℕ) (r : FileR
     → slice_get before.files.paths i ≡ Some path → r ≡ loaded bytes → project_facts (put_file path bytes project) ≡ project_facts project
     → job ≡ record before { files = record before.files { records = slice_set before.files.records i r } } → IsJobOf (put_file path bytes project) job
 job_put project path bytes i r before job ordered known here loads facts is =
-    let put = put_at path bytes project i ordered (ap (λ paths. slice_get paths i) (sym known.files.paths) ∙ here) in
+    let entry = path_entry path project i (ap (λ paths. slice_get paths i) (sym known.files.paths) ∙ here) in
+    let put = put_value-here path entry.0 bytes project i ordered entry.1 ∙ sym (set_value-is project i (path, entry.0) bytes entry.1) in
     subst (IsJobOf (put_file path bytes project)) (sym is) (record {
       files = record {
         paths = known.files.paths ∙ sym (ap (map path_of_file) put ∙ paths-set_value project i bytes);
