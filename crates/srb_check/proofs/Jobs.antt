@@ -70,12 +70,12 @@ searched path project (Err i) apart =
     λ rise.
     let count = length-map project path_of_file in
     let at : (k : ℕ) (file : File) → path_cmp (get_or (map path_of_file project) k file.0) path ≡ path_cmp (get_or project k file).0 path =
-        λ k file. ap (λ p. path_cmp p path) (get_or-map path_of_file project k file) in
+    λ k file. ap (λ p. path_cmp p path) (get_or-map path_of_file project k file) in
     let point = apart (λ a b p le within.
-        let first = ap ordering_index (at a (p, [])) in
-        let second = ap ordering_index (at b (p, [])) in
-        let rises = rise a b (p, []) le (omega (arith, within, count)) in
-        omega (arith, rises, first, second)) in
+    let first = ap ordering_index (at a (p, [])) in
+    let second = ap ordering_index (at b (p, [])) in
+    let rises = rise a b (p, []) le (omega (arith, within, count)) in
+    omega (arith, rises, first, second)) in
     (λ k file low less. sym (at k file) ∙ point.0 k file.0 low less, λ k file low less. sym (at k file) ∙ point.1 k file.0 low (omega (arith, less, count)))
 
 past : {X Y : Type 0} (f : X → Y) (xs : List X) (n : ℕ) → length xs ≤ n → option_map f (slice_get xs n) ≡ None
