@@ -18,8 +18,6 @@ mod operator;
 mod piece;
 mod running;
 mod state;
-#[cfg(test)]
-mod tests;
 mod word;
 
 use rb_tree::token::Token;

@@ -1,5 +1,5 @@
-//! What the parser makes of short texts, by way of the lexer: tests alone, above the crates that they try, so that none of those
-//! stands on the lexer.
+//! What the lexer makes of short texts, and the parser by way of it: tests alone, above the crates that they try, so that these aren't proved
+//! once more with their tests, and none but the lexer stands on it.
 #![tactic(auto)]
 
 #[cfg(test)]
@@ -8,3 +8,5 @@ mod expressions;
 mod guards;
 #[cfg(test)]
 mod programs;
+#[cfg(test)]
+mod tokens;

@@ -1,5 +1,10 @@
-use super::*;
+//! Tokens: which a short text has, with their places, where others are refused, and the levels that texts ask for.
+
+use rb_lex::{LexEnd, level, lex};
 use rb_tree::token::TokenKind;
+use srb_terms::Level;
+use srb_text::Text;
+use std::alloc::Global;
 use std::process::Abort;
 use std::test::Fail;
 
