@@ -8,8 +8,6 @@
 mod blank;
 mod make;
 mod same;
-#[cfg(test)]
-mod tests;
 mod words;
 
 pub use make::outline;

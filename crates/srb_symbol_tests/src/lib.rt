@@ -1,5 +1,5 @@
-//! What the symbol crates make of short programs, by way of the lexer and the parser, and what calls answer in small tables: tests alone, above
-//! the crates that they try.
+//! What the symbol crates make of short programs, by way of the lexer and the parser, what calls answer in small tables, and the outlines of
+//! trees written by hand: tests alone, above the crates that they try.
 #![tactic(auto)]
 
 #[cfg(test)]
@@ -8,6 +8,8 @@ mod calls;
 mod facts;
 #[cfg(test)]
 mod malformed;
+#[cfg(test)]
+mod outlines;
 #[cfg(test)]
 mod references;
 #[cfg(test)]

@@ -1,4 +1,6 @@
-use crate::{outline, same_outline};
+//! Outlines of trees written by hand, and which of them are the same.
+
+use rb_outline::{outline, same_outline};
 use rb_tree::syntax::{Argument, Binary, Dot, Node, Suffix, Tree};
 use srb_terms::{Items, Name, NoMemory, NodeKind, Outline, Span, Words};
 use std::alloc::Global;
