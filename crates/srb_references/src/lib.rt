@@ -19,8 +19,6 @@ pub mod reading;
 mod reference;
 mod rows;
 mod taken;
-#[cfg(test)]
-mod tests;
 pub mod type_form;
 pub mod visit;
 mod walk;

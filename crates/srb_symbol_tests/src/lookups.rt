@@ -1,9 +1,9 @@
 //! References written by hand, in a small table.
 
-use crate::reading::Reading;
-use crate::visit::Visit;
-use crate::{Reference, malformed_types, mentions_of, unresolved};
 use rb_tree::syntax::{Node, Tree};
+use srb_references::reading::Reading;
+use srb_references::visit::Visit;
+use srb_references::{Reference, malformed_types, mentions_of, unresolved};
 use srb_rules::Position;
 use srb_terms::{Diag, Items, Kind, Name, Names, NoMemory, Span, World};
 use std::alloc::Global;
