@@ -18,8 +18,6 @@ mod rows;
 mod search;
 mod settled;
 mod step;
-#[cfg(test)]
-mod tests;
 
 pub use circles::circular;
 pub use lin_end::LinEnd;

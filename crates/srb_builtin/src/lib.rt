@@ -13,8 +13,6 @@ mod outlines;
 mod row;
 mod rows;
 mod takes;
-#[cfg(test)]
-mod tests;
 mod types;
 
 use crate::rows::{ROWS, add_rows};

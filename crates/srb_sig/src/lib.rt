@@ -15,8 +15,6 @@ mod leaves;
 mod paths;
 mod reading;
 mod signature;
-#[cfg(test)]
-mod tests;
 mod types;
 mod typing;
 mod wrong;

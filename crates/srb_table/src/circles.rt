@@ -12,9 +12,6 @@ use srb_rules::Link;
 use srb_terms::{Name, Names, NoMemory};
 use std::alloc::Global;
 
-#[cfg(test)]
-mod tests;
-
 /// The table of circular references: each circular link, and the superclass that would decide for `BasicObject`.
 pub fn circles(
     alloc: Global,

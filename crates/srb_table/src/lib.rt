@@ -20,8 +20,6 @@ mod nested;
 mod references;
 mod stages;
 mod superclasses;
-#[cfg(test)]
-mod tests;
 mod values;
 mod world;
 

@@ -7,8 +7,6 @@ mod names;
 mod order;
 mod parts;
 mod showing;
-#[cfg(test)]
-mod tests;
 mod unions;
 
 pub use depth::{array, hash};

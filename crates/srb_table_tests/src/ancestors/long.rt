@@ -1,5 +1,8 @@
-use crate::tests::names;
-use crate::{Link, Parents, circular, linearize};
+//! Long chains of links, and a large circle.
+
+use crate::ancestors::names;
+use srb_ancestors::{Parents, circular, linearize};
+use srb_rules::Link;
 use srb_terms::{How, Items, Name, NoMemory};
 use std::alloc::Global;
 

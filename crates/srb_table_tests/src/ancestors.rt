@@ -1,4 +1,6 @@
-use crate::LinEnd;
+//! Linearizations and circular references.
+
+use srb_ancestors::LinEnd;
 
 mod examples;
 mod long;

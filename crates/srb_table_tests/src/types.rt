@@ -1,6 +1,7 @@
-// Types over a small table, written by hand.
-use crate::{all, any, array, hash, meet, show, without};
+//! Types over a small table, written by hand.
+
 use srb_terms::{Kind, Name, Names, NoMemory, Ty, World};
+use srb_types::{all, any, array, hash, meet, show, without};
 use std::alloc::Global;
 
 fn name(alloc: Global, text: &str) -> Result<Name, NoMemory> {

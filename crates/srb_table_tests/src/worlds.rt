@@ -1,6 +1,7 @@
-// The worlds of small projects and of a large one.
-use crate::world::world_of;
+//! The worlds of small projects.
+
 use srb_summary::Summary;
+use srb_table::world_of;
 use srb_terms::{
     Boxed, Fact, Given, How, Items, Kind, Label, Name, Names, NoMemory, NodeKind, Outline,
     ParamKind, ParamShape, Shapes, SigText, Ty, TyText, Words, World,
@@ -19,7 +20,7 @@ fn names(alloc: Global, texts: &[&str]) -> Result<Names, NoMemory> {
     Ok(list)
 }
 
-fn add_scope(
+pub fn add_scope(
     alloc: Global,
     facts: &mut Items<Fact>,
     text: &str,
@@ -31,7 +32,7 @@ fn add_scope(
     })
 }
 
-fn add_parent(
+pub fn add_parent(
     alloc: Global,
     facts: &mut Items<Fact>,
     of: &str,
@@ -61,8 +62,8 @@ fn add_value(
     })
 }
 
-// The classes of the built-in table that the tests name.
-fn base(alloc: Global) -> Result<Items<Fact>, NoMemory> {
+/// The classes of the built-in table that the tests name.
+pub fn base(alloc: Global) -> Result<Items<Fact>, NoMemory> {
     let mut facts = Items::new(alloc);
     add_scope(alloc, &mut facts, "BasicObject", Kind::Class)?;
     add_scope(alloc, &mut facts, "Object", Kind::Class)?;

@@ -1,4 +1,6 @@
-use crate::table;
+//! Facts of the built-in table.
+
+use srb_builtin::table;
 use srb_terms::{Fact, How, Kind, Names, NoMemory, NodeKind, Outline, ParamKind, ParamShape};
 
 // Whether the list holds this name alone.

@@ -1,5 +1,6 @@
-// Type expressions and signatures in a small table, written by hand.
-use crate::{TyEnd, read_sig, read_type, wrong_parts};
+//! Type expressions and signatures in a small table, written by hand.
+
+use srb_sig::{SigEnd, TyEnd, read_sig, read_type, wrong_parts};
 use srb_terms::{
     Boxed, Items, Kind, Label, Name, Names, NoMemory, NodeKind, Outline, ParamKind, ParamShape,
     SigText, TyText, Words, World,
@@ -201,7 +202,7 @@ fn a_signature_without_its_parameter_is_malformed(rt: HostRuntime) -> Result<(),
     let shapes = Items::new(alloc);
     let read = read_sig(alloc, &zoo(alloc)?, &Names::new(), &shapes, &sig(alloc)?);
     match read {
-        Err(crate::SigEnd::Malformed) => {}
+        Err(SigEnd::Malformed) => {}
         _ => assert!(rt; false),
     }
     Ok(())

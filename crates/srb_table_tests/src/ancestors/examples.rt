@@ -1,5 +1,8 @@
-use crate::tests::names;
-use crate::{Link, Lins, Parents, circular, linearize};
+//! Short lists of links.
+
+use crate::ancestors::names;
+use srb_ancestors::{Lins, Parents, circular, linearize};
+use srb_rules::Link;
 use srb_terms::{How, Items, Name, NoMemory};
 use std::alloc::Global;
 
