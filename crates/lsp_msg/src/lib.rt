@@ -10,8 +10,6 @@
 #![tactic(auto)]
 
 mod change;
-#[cfg(test)]
-mod copy_tests;
 mod encodings;
 mod error_code;
 mod id;
@@ -21,8 +19,6 @@ mod params;
 mod placed;
 mod reading;
 mod reason;
-#[cfg(test)]
-mod tests;
 mod writing;
 
 pub use change::Change;

@@ -1,4 +1,6 @@
-use crate::{Change, Id, Msg, Placed};
+//! Copies of messages.
+
+use lsp_msg::{Change, Id, Msg, Placed};
 use srb_terms::{Items, NoMemory, Words};
 use srb_text::Pos;
 use std::alloc::Global;

@@ -1,4 +1,6 @@
-use crate::{Id, Out, Placed, Reason, chosen_encoding, decode, encode};
+//! The messages that bodies say, and the bodies of replies.
+
+use lsp_msg::{Id, Out, Placed, Reason, chosen_encoding, decode, encode};
 use srb_terms::{Items, Words};
 use srb_text::{Encoding, Pos};
 use std::alloc::{AllocError, Global};
