@@ -3,22 +3,22 @@ use Rattle.std.proofs.Common.{◌≡◌, ℕ, ◌+◌, ◌<◌, ◌≤◌, Bool,
 use Rattle.std.specs.Prelude.{Option, Some, None, is_some, IsSome, IfErr, IsErrAnd, Result, Ok, Err, nat_lt, nat_le, slice_get, remove, unwrap_or, encode_utf8_all, if◌then◌else◌}
 use Rattle.std.specs.Str.{chars}
 use Rattle.std.proofs.lemmas.Bool.{lt-ltb, le-ltb, le-leb, lt-leb}
-use Rattle.srb_terms.specs.PathMaps.{IsPlaceOf, set_value}
+use Rattle.srb_terms.specs.PathMaps.{IsOrdered, IsPlaceOf, set_value}
 use Rattle.srb_terms.specs.Projects.{File, bytes_at, put_file}
 use Rattle.lsp_msg.specs.declared.change.Change.{Change}
 use Rattle.lsp_docs.specs.declared.doc.Doc.{Doc}
 use Rattle.lsp_docs.specs.declared.doc_end.DocEnd.{DocEnd}
 use Rattle.lsp_docs.specs.declared.doc_end.DocEnd.TheVariants.{Foreign, Unknown, TooMany, TooBig}
 use Rattle.lsp_docs.specs.Paths.{Path, Bytes, has, with_path, without_path}
-use Rattle.lsp_docs.specs.Projects.{Project, Edit, paths_of, with_bytes, after_edit, total_bytes}
+use Rattle.lsp_docs.specs.Projects.{Edit, paths_of, with_bytes, after_edit, total_bytes}
 use Rattle.lsp_docs.specs.Documents.{Agreed, Documents, Deed, MOST_FILES, IsDoneFor, after_change, after_deed, agreed_by, no_documents, changes, changes_now, closes, if_open, opens, path_of, sized, where_named}
 use Rattle.srb_text.specs.Limits.{MOST_BYTES}
 use Rattle.srb_text.specs.declared.Encoding.{Encoding}
 use Rattle.lsp_docs.specs.Changes.{after_changes, sized_text, sum_with}
-use Rattle.lsp_docs.specs.Rows.{Row, AreRows, IsOpenAt, closed_doc, closed_row, documents_of, opened_doc, present_of, present_with, project_of, reading, saved_doc, size_of}
+use Rattle.lsp_docs.specs.Rows.{Row, AreRows, HasRoom, IsOpenAt, IsPresent, closed_doc, closed_row, documents_of, opened_doc, present_of, present_with, project_of, reading, reads, saved_doc, size_of, with_kept}
 use Rattle.lsp_docs.proofs.PathLemmas.{has-paths_of}
-use Rattle.lsp_docs.proofs.RowLemmas.{bytes_absent, bytes_here, kept-inserted, kept-removed, kept-set, length-project_of, paths-set, paths_of-with_bytes, reading-inserted, reading-removed, reading-set, total-with, total-with_new}
-use Rattle.lsp_docs.proofs.RowsHold.{opened-closed, present_at, reading-closed, saved-closed}
+use Rattle.lsp_docs.proofs.RowLemmas.{bytes_absent, bytes_here, docs_with, kept-in_new, kept-in_none, kept-in_row, kept-inserted, kept-removed, kept-set, length-project_of, paths-set, paths_of-with_bytes, reading-inserted, reading-removed, reading-set, total-with, total-with_new}
+use Rattle.lsp_docs.proofs.RowsHold.{ArePresent-inserted, ArePresent-removed, ArePresent-set, length-inserted, length-removed, length-set, opened-closed, present_at, reading-closed, same_row, saved-closed}
 
 -- ---- the tests
 sized_fits : (d : Documents) (e : Edit) (opened : List Path) (n : ℕ) → total_bytes (after_edit d.project e) ≡ n → n ≤ MOST_BYTES
@@ -61,9 +61,6 @@ pub open_not : (d : Documents) (deed : Path → Result Deed DocEnd) (f : Path) �
 open_not d deed f is = ap (λ b. if b then deed f else Err Unknown) is
 
 -- ---- an edit, done
-abbrev docs_with : Agreed → Project → Project → List Path → Documents
-docs_with agreed project saved opened = record { agreed = agreed; project = project; saved = saved; opened = opened }
-
 known_of : (d : Documents) (words : Bytes) (f : Path) (o : Option Bytes) → bytes_at f d.project ≡ o → IsSome o
     → opens d words f ≡ sized d (record { path = f; now = Some words }) (with_path f d.opened)
 known_of d words f None is some = cc
@@ -78,11 +75,11 @@ edit_done agreed f o rows new opened project saved paths =
     ∙ ap (λ fs. docs_with agreed (with_bytes f o (project_of rows)) (reading (λ d. d.saved) rows) fs) paths
 
 -- ---- didOpen
-pub opens_again : (agreed : Agreed) (f : Path) (rows new : List Row) (i : ℕ) (d : Doc) (words : Bytes) (others : ℕ) → AreRows rows → slice_get rows i ≡ Some (f, d)
-    → new ≡ set_value rows i (opened_doc d (chars words)) → encode_utf8_all (chars words) ≡ words
+pub opens_again : (agreed : Agreed) (f : Path) (rows : List Row) (i : ℕ) (d kept : Doc) (words : Bytes) (others : ℕ) → AreRows rows
+    → slice_get rows i ≡ Some (f, d) → kept ≡ opened_doc d (chars words) → encode_utf8_all (chars words) ≡ words
     → others + size_of (present_of d) ≡ total_bytes (project_of rows) → others + length words ≤ MOST_BYTES
-    → IsDoneFor (opens (documents_of agreed rows) words f) (documents_of agreed rows) (documents_of agreed new) (record { path = f; edit = true })
-opens_again agreed f rows new i d words others are get set spelled sum fits =
+    → IsDoneFor (opens (documents_of agreed rows) words f) (documents_of agreed rows) (with_kept f (Some kept) (documents_of agreed rows)) (record { path = f; edit = true })
+opens_again agreed f rows i d kept words others are get is spelled sum fits =
     let now = opened_doc d (chars words) in
     let docs = documents_of agreed rows in
     let edit : Edit = record { path = f; now = Some words } in
@@ -93,7 +90,7 @@ opens_again agreed f rows new i d words others are get set spelled sum fits =
       deed = Deed.Edits edit opened;
       accepted = known_of docs words f (present_of d) (bytes_here present_of rows i (f, d) are.ordered get) (present_at rows i (f, d) are.present get)
           ∙ sized_fits docs edit opened (others + length words) (omega (arith, total, sum)) fits;
-      done = ap (documents_of agreed) set
+      done = ap (λ x. with_kept f (Some x) docs) is ∙ sym (kept-in_row agreed f rows i d now are.ordered get)
           ∙ edit_done agreed f (Some (encode_utf8_all (chars words))) rows (set_value rows i now) opened (reading-set present_of rows i (f, d) now are.ordered get)
           (kept-set (λ x. x.saved) rows i (f, d) now get refl) paths
           ∙ ap (λ b. after_deed docs (Deed.Edits (record { path = f; now = Some b }) opened)) spelled;
@@ -109,12 +106,12 @@ opens_again_big agreed f rows i d words others are get sum big =
     known_of docs words f (present_of d) (bytes_here present_of rows i (f, d) are.ordered get) (present_at rows i (f, d) are.present get)
     ∙ sized_big docs (record { path = f; now = Some words }) (with_path f docs.opened) (others + length words) (omega (arith, total, sum)) big
 
-pub opens_new : (agreed : Agreed) (f : Path) (rows new : List Row) (i : ℕ) (words : Bytes) → AreRows rows → IsPlaceOf f rows i → length rows < MOST_FILES
-    → new ≡ insert rows i (f, record { saved = None; text = Some (chars words) }) → encode_utf8_all (chars words) ≡ words
-    → total_bytes (project_of rows) + length words ≤ MOST_BYTES
-    → IsDoneFor (opens (documents_of agreed rows) words f) (documents_of agreed rows) (documents_of agreed new) (record { path = f; edit = true })
-opens_new agreed f rows new i words are place room set spelled fits =
-    let now : Doc = record { saved = None; text = Some (chars words) } in
+pub opens_new : (agreed : Agreed) (f : Path) (rows : List Row) (i : ℕ) (text : List ℕ) (words : Bytes) → AreRows rows → IsPlaceOf f rows i → length rows < MOST_FILES
+    → text ≡ chars words → encode_utf8_all (chars words) ≡ words → total_bytes (project_of rows) + length words ≤ MOST_BYTES
+    → IsDoneFor (opens (documents_of agreed rows) words f) (documents_of agreed rows) (with_kept f (Some (opened_doc (closed_doc None) text)) (documents_of agreed rows))
+    (record { path = f; edit = true })
+opens_new agreed f rows i text words are place room is spelled fits =
+    let now = opened_doc (closed_doc None) (chars words) in
     let docs = documents_of agreed rows in
     let edit : Edit = record { path = f; now = Some words } in
     let opened = with_path f docs.opened in
@@ -124,7 +121,7 @@ opens_new agreed f rows new i words are place room set spelled fits =
       deed = Deed.Edits edit opened;
       accepted = opens_room docs words f (bytes_absent present_of f rows i place refl) (omega (arith, count, room))
           ∙ sized_fits docs edit opened (total_bytes (project_of rows) + length words) (total-with_new f rows i (Some words) place) fits;
-      done = ap (documents_of agreed) set
+      done = ap (λ t. with_kept f (Some (opened_doc (closed_doc None) t)) docs) is ∙ sym (kept-in_new agreed f rows i now place)
           ∙ edit_done agreed f (Some (encode_utf8_all (chars words))) rows (insert rows i (f, now)) opened (reading-inserted present_of f now rows i place)
           (kept-inserted (λ x. x.saved) f now rows i refl) paths
           ∙ ap (λ b. after_deed docs (Deed.Edits (record { path = f; now = Some b }) opened)) spelled;
@@ -212,17 +209,18 @@ changes_start agreed f rows i text list others are at spelled sum =
     ∙ ap (λ t. changes docs f t list) spelled
     ∙ changes_are docs f others (λ b. totals_of f rows i at.doc others are at.here sum (Some b)) list text
 
-pub changes_done : (agreed : Agreed) (f : Path) (rows new : List Row) (i : ℕ) (text fresh : List ℕ) (list : List Change) (others : ℕ) → AreRows rows
+pub changes_done : (agreed : Agreed) (f : Path) (rows : List Row) (i : ℕ) (text fresh : List ℕ) (kept : Doc) (list : List Change) (others : ℕ) → AreRows rows
     → (at : IsOpenAt f rows i text) → chars (encode_utf8_all text) ≡ text → others + size_of (present_of at.doc) ≡ total_bytes (project_of rows)
-    → after_changes agreed.encoding others text list ≡ Ok fresh → new ≡ set_value rows i (opened_doc at.doc fresh)
-    → IsDoneFor (if_open (documents_of agreed rows) (changes_now (documents_of agreed rows) list) f) (documents_of agreed rows) (documents_of agreed new) (record { path = f; edit = true })
-changes_done agreed f rows new i text fresh list others are at spelled sum after set =
+    → after_changes agreed.encoding others text list ≡ Ok fresh → kept ≡ opened_doc at.doc fresh
+    → IsDoneFor (if_open (documents_of agreed rows) (changes_now (documents_of agreed rows) list) f) (documents_of agreed rows)
+    (with_kept f (Some kept) (documents_of agreed rows)) (record { path = f; edit = true })
+changes_done agreed f rows i text fresh kept list others are at spelled sum after is =
     let now = opened_doc at.doc fresh in
     let docs = documents_of agreed rows in
     record {
       deed = Deed.Edits (record { path = f; now = Some (encode_utf8_all fresh) }) docs.opened;
       accepted = changes_start agreed f rows i text list others are at spelled sum ∙ ap (deed_of docs f) after;
-      done = ap (documents_of agreed) set
+      done = ap (λ x. with_kept f (Some x) docs) is ∙ sym (kept-in_row agreed f rows i at.doc now are.ordered at.here)
           ∙ edit_done agreed f (Some (encode_utf8_all fresh)) rows (set_value rows i now) docs.opened (reading-set present_of rows i (f, at.doc) now are.ordered at.here)
           (kept-set (λ x. x.saved) rows i (f, at.doc) now at.here refl) (paths-set (λ x. x.text) rows i (f, at.doc) now text fresh at.here at.with_text refl);
       told = refl;
@@ -236,10 +234,11 @@ changes_refused agreed f rows i text list others e are at spelled sum after =
     changes_start agreed f rows i text list others are at spelled sum ∙ ap (deed_of (documents_of agreed rows) f) after
 
 -- ---- didSave
-pub saves_done : (agreed : Agreed) (f : Path) (rows new : List Row) (i : ℕ) (text bytes : List ℕ) → AreRows rows → (at : IsOpenAt f rows i text)
-    → bytes ≡ encode_utf8_all text → new ≡ set_value rows i (saved_doc at.doc bytes)
-    → IsDoneFor (if_open (documents_of agreed rows) (λ g. Ok (Deed.Saves g)) f) (documents_of agreed rows) (documents_of agreed new) (record { path = f; edit = false })
-saves_done agreed f rows new i text bytes are at same set =
+pub saves_done : (agreed : Agreed) (f : Path) (rows : List Row) (i : ℕ) (text bytes : List ℕ) (kept : Doc) → AreRows rows → (at : IsOpenAt f rows i text)
+    → bytes ≡ encode_utf8_all text → kept ≡ saved_doc at.doc bytes
+    → IsDoneFor (if_open (documents_of agreed rows) (λ g. Ok (Deed.Saves g)) f) (documents_of agreed rows) (with_kept f (Some kept) (documents_of agreed rows))
+    (record { path = f; edit = false })
+saves_done agreed f rows i text bytes kept are at same is =
     let now = saved_doc at.doc bytes in
     let after = set_value rows i now in
     let project = kept-set present_of rows i (f, at.doc) now at.here (present_is now text at.with_text ∙ sym (present_is at.doc text at.with_text)) in
@@ -249,7 +248,7 @@ saves_done agreed f rows new i text bytes are at same set =
     record {
       deed = Deed.Saves f;
       accepted = if_open_is agreed f rows i text (λ g. Ok (Deed.Saves g)) are at;
-      done = ap (documents_of agreed) set
+      done = ap (λ x. with_kept f (Some x) (documents_of agreed rows)) is ∙ sym (kept-in_row agreed f rows i at.doc now are.ordered at.here)
           ∙ ap (λ p. docs_with agreed p (reading (λ x. x.saved) after) (paths_of (reading (λ x. x.text) after))) project
           ∙ ap (λ s. docs_with agreed (project_of rows) s (paths_of (reading (λ x. x.text) after))) saved
           ∙ ap (λ o. docs_with agreed (project_of rows) (put_file f bytes (reading (λ x. x.saved) rows)) (paths_of o)) opened
@@ -277,6 +276,11 @@ closes_big agreed f rows i text others are at sum big =
     closes_start agreed f rows i text are at
     ∙ sized_big docs (closing_edit f at.doc) (without_path f docs.opened) (others + size_of at.doc.saved) (totals_of f rows i at.doc others are at.here sum at.doc.saved) big
 
+-- these are the documents after the path was closed
+abbrev IsClosed : Agreed → Path → List Row → Documents → Type 0
+IsClosed agreed f rows new =
+    IsDoneFor (if_open (documents_of agreed rows) (closes (documents_of agreed rows)) f) (documents_of agreed rows) new (record { path = f; edit = true })
+
 closes_to : (agreed : Agreed) (f : Path) (rows new : List Row) (i : ℕ) (text : List ℕ) (others : ℕ) → AreRows rows → (at : IsOpenAt f rows i text)
     → others + size_of (present_of at.doc) ≡ total_bytes (project_of rows) → others + size_of at.doc.saved ≤ MOST_BYTES
     → project_of new ≡ with_bytes f at.doc.saved (project_of rows) → reading (λ x. x.saved) new ≡ reading (λ x. x.saved) rows
@@ -292,25 +296,29 @@ closes_to agreed f rows new i text others are at sum fits project saved opened =
       told = refl;
     }
 
-pub closes_back : (agreed : Agreed) (f : Path) (rows new : List Row) (i : ℕ) (text : List ℕ) (others : ℕ) → AreRows rows → (at : IsOpenAt f rows i text)
+pub closes_back : (agreed : Agreed) (f : Path) (rows : List Row) (i : ℕ) (text : List ℕ) (kept : Doc) (others : ℕ) → AreRows rows → (at : IsOpenAt f rows i text)
     → others + size_of (present_of at.doc) ≡ total_bytes (project_of rows) → others + size_of at.doc.saved ≤ MOST_BYTES
-    → new ≡ set_value rows i (closed_doc at.doc.saved)
-    → IsDoneFor (if_open (documents_of agreed rows) (closes (documents_of agreed rows)) f) (documents_of agreed rows) (documents_of agreed new) (record { path = f; edit = true })
-closes_back agreed f rows new i text others are at sum fits set =
+    → kept ≡ closed_doc at.doc.saved
+    → IsDoneFor (if_open (documents_of agreed rows) (closes (documents_of agreed rows)) f) (documents_of agreed rows) (with_kept f (Some kept) (documents_of agreed rows))
+    (record { path = f; edit = true })
+closes_back agreed f rows i text kept others are at sum fits is =
     let now = closed_doc at.doc.saved in
-    closes_to agreed f rows new i text others are at sum fits
-    (ap project_of set ∙ reading-set present_of rows i (f, at.doc) now are.ordered at.here)
-    (ap (reading (λ x. x.saved)) set ∙ kept-set (λ x. x.saved) rows i (f, at.doc) now at.here refl)
-    (ap (reading (λ x. x.text)) set ∙ reading-set (λ x. x.text) rows i (f, at.doc) now are.ordered at.here)
+    subst (IsClosed agreed f rows) (kept-in_row agreed f rows i at.doc now are.ordered at.here ∙ ap (λ x. with_kept f (Some x) (documents_of agreed rows)) (sym is))
+    (closes_to agreed f rows (set_value rows i now) i text others are at sum fits
+    (reading-set present_of rows i (f, at.doc) now are.ordered at.here)
+    (kept-set (λ x. x.saved) rows i (f, at.doc) now at.here refl)
+    (reading-set (λ x. x.text) rows i (f, at.doc) now are.ordered at.here))
 
-pub closes_away : (agreed : Agreed) (f : Path) (rows new : List Row) (i : ℕ) (text : List ℕ) (others : ℕ) → AreRows rows → (at : IsOpenAt f rows i text)
-    → others + size_of (present_of at.doc) ≡ total_bytes (project_of rows) → others ≤ MOST_BYTES → at.doc.saved ≡ None → new ≡ remove rows i
-    → IsDoneFor (if_open (documents_of agreed rows) (closes (documents_of agreed rows)) f) (documents_of agreed rows) (documents_of agreed new) (record { path = f; edit = true })
-closes_away agreed f rows new i text others are at sum fits none set =
-    closes_to agreed f rows new i text others are at sum (omega (arith, fits, ap size_of none))
-    (ap project_of set ∙ reading-removed present_of rows i (f, at.doc) are.ordered at.here ∙ ap (λ o. with_bytes f o (project_of rows)) (sym none))
-    (ap (reading (λ x. x.saved)) set ∙ kept-removed (λ x. x.saved) rows i (f, at.doc) at.here none)
-    (ap (reading (λ x. x.text)) set ∙ reading-removed (λ x. x.text) rows i (f, at.doc) are.ordered at.here)
+pub closes_away : (agreed : Agreed) (f : Path) (rows : List Row) (i : ℕ) (text : List ℕ) (others : ℕ) → AreRows rows → (at : IsOpenAt f rows i text)
+    → others + size_of (present_of at.doc) ≡ total_bytes (project_of rows) → others ≤ MOST_BYTES → at.doc.saved ≡ None
+    → IsDoneFor (if_open (documents_of agreed rows) (closes (documents_of agreed rows)) f) (documents_of agreed rows) (with_kept f None (documents_of agreed rows))
+    (record { path = f; edit = true })
+closes_away agreed f rows i text others are at sum fits none =
+    subst (IsClosed agreed f rows) (kept-in_none agreed f rows i at.doc are.ordered at.here)
+    (closes_to agreed f rows (remove rows i) i text others are at sum (omega (arith, fits, ap size_of none))
+    (reading-removed present_of rows i (f, at.doc) are.ordered at.here ∙ ap (λ o. with_bytes f o (project_of rows)) (sym none))
+    (kept-removed (λ x. x.saved) rows i (f, at.doc) at.here none)
+    (reading-removed (λ x. x.text) rows i (f, at.doc) are.ordered at.here))
 
 -- ---- answers
 abbrev done_with : (Path → Result Deed DocEnd) → Option Path → Result Deed DocEnd
@@ -334,3 +342,86 @@ closed_documents files =
     ap (λ p. docs_with (agreed_by None []) p (reading (λ d. d.saved) (map closed_row files)) (paths_of (reading (λ d. d.text) (map closed_row files)))) (reading-closed files)
     ∙ ap (λ s. docs_with (agreed_by None []) files s (paths_of (reading (λ d. d.text) (map closed_row files)))) (saved-closed files)
     ∙ ap (λ o. docs_with (agreed_by None []) files files (paths_of o)) (opened-closed files)
+
+-- ---- room
+pub room_in_row : (f : Path) (rows : List Row) (i : ℕ) (d kept : Doc) (others : ℕ) → AreRows rows → length rows ≤ MOST_FILES → slice_get rows i ≡ Some (f, d)
+    → IsSome (present_of kept) → others + size_of (present_of d) ≡ total_bytes (project_of rows) → others + size_of (present_of kept) ≤ MOST_BYTES
+    → HasRoom f (Some kept) (project_of rows)
+room_in_row f rows i d kept others are few get some sum fits =
+    let same = ap length (reading-set present_of rows i (f, d) kept are.ordered get) in
+    let count = length-project_of (set_value rows i kept) (ArePresent-set rows i kept are.present some) in
+    record {
+      present = some;
+      files = omega (arith, same, count, length-set rows i kept, few);
+      bytes = omega (arith, totals_of f rows i d others are get sum (present_of kept), fits);
+    }
+
+pub room_in_new : (f : Path) (rows : List Row) (i : ℕ) (kept : Doc) → AreRows rows → IsPlaceOf f rows i → length rows < MOST_FILES
+    → IsSome (present_of kept) → total_bytes (project_of rows) + size_of (present_of kept) ≤ MOST_BYTES → HasRoom f (Some kept) (project_of rows)
+room_in_new f rows i kept are place few some fits =
+    let same = ap length (reading-inserted present_of f kept rows i place) in
+    let count = length-project_of (insert rows i (f, kept)) (ArePresent-inserted f kept rows i are.present some) in
+    record {
+      present = some;
+      files = omega (arith, same, count, length-inserted rows i (f, kept), few);
+      bytes = omega (arith, total-with_new f rows i (present_of kept) place, fits);
+    }
+
+pub room_in_none : (f : Path) (rows : List Row) (i : ℕ) (d : Doc) → AreRows rows → length rows ≤ MOST_FILES → slice_get rows i ≡ Some (f, d)
+    → total_bytes (project_of rows) ≤ MOST_BYTES → HasRoom f None (project_of rows)
+room_in_none f rows i d are few get fits =
+    let same = ap length (reading-removed present_of rows i (f, d) are.ordered get) in
+    let count = length-project_of (remove rows i) (ArePresent-removed rows i are.present) in
+    let total = total-with rows i (f, d) None are.ordered get in
+    record {
+      present = tt;
+      files = omega (arith, same, count, length-removed rows i, few);
+      bytes = omega (arith, total, fits);
+    }
+
+-- a row that keeps its present bytes
+pub room_as_present : (f : Path) (rows : List Row) (i : ℕ) (text bytes : List ℕ) (kept : Doc) → AreRows rows → length rows ≤ MOST_FILES
+    → total_bytes (project_of rows) ≤ MOST_BYTES → (at : IsOpenAt f rows i text) → kept ≡ saved_doc at.doc bytes → HasRoom f (Some kept) (project_of rows)
+room_as_present f rows i text bytes kept are few fits at is =
+    let same : present_of kept ≡ present_of at.doc = ap present_of is ∙ present_is (saved_doc at.doc bytes) text at.with_text ∙ sym (present_is at.doc text at.with_text) in
+    let total = total-with rows i (f, at.doc) (present_of kept) are.ordered at.here in
+    let size = ap size_of same in
+    let count = length-project_of (set_value rows i kept) (ArePresent-set rows i kept are.present (subst IsSome (sym same) (present_at rows i (f, at.doc) are.present at.here))) in
+    record {
+      present = subst IsSome (sym same) (present_at rows i (f, at.doc) are.present at.here);
+      files = omega (arith, ap length (reading-set present_of rows i (f, at.doc) kept are.ordered at.here), count, length-set rows i kept, few);
+      bytes = omega (arith, total, size, fits);
+    }
+
+-- the bytes of a row with a text
+pub has_text : (kept was : Doc) (text : List ℕ) → kept ≡ opened_doc was text → IsSome (present_of kept)
+has_text kept was text is = ap (λ d. is_some (present_of d)) is
+
+pub text_size : (kept was : Doc) (text : List ℕ) → kept ≡ opened_doc was text → size_of (present_of kept) ≡ length (encode_utf8_all text)
+text_size kept was text is = ap (λ d. size_of (present_of d)) is
+
+-- ---- what is kept, put at its path
+pub put_fits : (f : Path) (kept : Option Doc) (doc : Doc) (rows : List Row) (i : ℕ) (was : Doc) (r : Row) → IsOrdered rows
+    → slice_get rows i ≡ Some (f, was) → slice_get rows i ≡ Some r → kept ≡ Some doc → HasRoom f kept (project_of rows)
+    → total_bytes (project_of rows) + size_of (present_of doc) ≤ MOST_BYTES + size_of (present_of r.1)
+put_fits f kept doc rows i was r ordered here get is room =
+    let same = ap (λ (x : Row). size_of (present_of x.1)) (same_row rows i (f, was) r here get) in
+    let total = total-with rows i (f, was) (present_of doc) ordered here in
+    let all = ap (λ k. total_bytes (with_bytes f (reads present_of k) (project_of rows))) is in
+    omega (arith, same, total, all, room.bytes)
+
+pub put_fits_new : (f : Path) (kept : Option Doc) (doc : Doc) (rows : List Row) (i : ℕ) → IsPlaceOf f rows i → kept ≡ Some doc
+    → HasRoom f kept (project_of rows) → total_bytes (project_of rows) + size_of (present_of doc) ≤ MOST_BYTES
+put_fits_new f kept doc rows i place is room =
+    let total = total-with_new f rows i (present_of doc) place in
+    let all = ap (λ k. total_bytes (with_bytes f (reads present_of k) (project_of rows))) is in
+    omega (arith, total, all, room.bytes)
+
+pub put_few : (f : Path) (kept : Option Doc) (doc : Doc) (rows : List Row) (i : ℕ) → AreRows rows → IsPlaceOf f rows i → kept ≡ Some doc
+    → HasRoom f kept (project_of rows) → length rows < MOST_FILES
+put_few f kept doc rows i are place is room =
+    let some : IsSome (present_of doc) = subst IsPresent is room.present in
+    let count = length-project_of (insert rows i (f, doc)) (ArePresent-inserted f doc rows i are.present some) in
+    let same = ap length (reading-inserted present_of f doc rows i place) in
+    let all = ap (λ k. length (with_bytes f (reads present_of k) (project_of rows))) is in
+    omega (arith, count, same, all, length-inserted rows i (f, doc), room.files)

@@ -14,7 +14,8 @@ use Rattle.srb_terms.proofs.PathOrder.{put_value-there, same_path, self_cmp, tur
 use Rattle.lsp_docs.specs.declared.doc.Doc.{Doc}
 use Rattle.lsp_docs.specs.Paths.{Path, Bytes, with_path, without_path, is_before}
 use Rattle.lsp_docs.specs.Projects.{Project, paths_of, without_file, with_bytes, total_bytes}
-use Rattle.lsp_docs.specs.Rows.{Row, ArePresent, closed_doc, present_of, size_of, with_front, reading, project_of}
+use Rattle.lsp_docs.specs.Documents.{Agreed, Documents}
+use Rattle.lsp_docs.specs.Rows.{Row, ArePresent, closed_doc, documents_of, path_if, present_of, size_of, with_front, with_kept, reading, project_of}
 use Rattle.lsp_docs.proofs.PathLemmas.{self_path, bytes_at-with_bytes}
 
 -- ---- the first path of a project, and a later one
@@ -82,11 +83,6 @@ paths_of-put_file f b (file ∷ files) =
     by Less is rest = refl
     by Equal is rest = ap (λ g. g ∷ paths_of files) (same_path f file.0 is)
     by Greater is rest = ap (λ fs. file.0 ∷ fs) rest
-
--- the set with the path where it has something, else without it
-abbrev pub path_if : Path → Option Bytes → List Path → List Path
-path_if f None fs = without_path f fs
-path_if f (Some b) fs = with_path f fs
 
 pub paths_of-with_bytes : (f : Path) (o : Option Bytes) (p : Project) → paths_of (with_bytes f o p) ≡ path_if f o (paths_of p)
 paths_of-with_bytes f None p = paths_of-without_file f p
@@ -259,3 +255,49 @@ pub total-with_new : (f : Path) (rows : List Row) (i : ℕ) (o : Option Bytes) �
     → total_bytes (with_bytes f o (project_of rows)) ≡ total_bytes (project_of rows) + size_of o
 total-with_new f rows i o place =
     sym (ap total_bytes (reading-inserted present_of f (closed_doc o) rows i place)) ∙ total-inserted f (closed_doc o) rows i
+
+-- ---- the documents, where what is kept at one path changes
+abbrev pub docs_with : Agreed → Project → Project → List Path → Documents
+docs_with agreed project saved opened = record { agreed = agreed; project = project; saved = saved; opened = opened }
+
+kept_by : (agreed : Agreed) (f : Path) (present saved text : Option Bytes) (rows new : List Row)
+    → project_of new ≡ with_bytes f present (project_of rows)
+    → reading (λ d. d.saved) new ≡ with_bytes f saved (reading (λ d. d.saved) rows)
+    → reading (λ d. d.text) new ≡ with_bytes f text (reading (λ d. d.text) rows)
+    → documents_of agreed new
+    ≡ docs_with agreed (with_bytes f present (project_of rows)) (with_bytes f saved (reading (λ d. d.saved) rows)) (path_if f text (paths_of (reading (λ d. d.text) rows)))
+kept_by agreed f present saved text rows new p s t =
+    ap (λ x. docs_with agreed x (reading (λ d. d.saved) new) (paths_of (reading (λ d. d.text) new))) p
+    ∙ ap (λ x. docs_with agreed (with_bytes f present (project_of rows)) x (paths_of (reading (λ d. d.text) new))) s
+    ∙ ap (λ x. docs_with agreed (with_bytes f present (project_of rows)) (with_bytes f saved (reading (λ d. d.saved) rows)) x)
+    (ap paths_of t ∙ paths_of-with_bytes f text (reading (λ d. d.text) rows))
+
+pub kept-in_row : (agreed : Agreed) (f : Path) (rows : List Row) (i : ℕ) (was now : Doc) → IsOrdered rows → slice_get rows i ≡ Some (f, was)
+    → documents_of agreed (set_value rows i now) ≡ with_kept f (Some now) (documents_of agreed rows)
+kept-in_row agreed f rows i was now ordered is =
+    kept_by agreed f (present_of now) now.saved now.text rows (set_value rows i now) (reading-set present_of rows i (f, was) now ordered is)
+    (reading-set (λ d. d.saved) rows i (f, was) now ordered is) (reading-set (λ d. d.text) rows i (f, was) now ordered is)
+
+pub kept-in_new : (agreed : Agreed) (f : Path) (rows : List Row) (i : ℕ) (now : Doc) → IsPlaceOf f rows i
+    → documents_of agreed (insert rows i (f, now)) ≡ with_kept f (Some now) (documents_of agreed rows)
+kept-in_new agreed f rows i now place =
+    kept_by agreed f (present_of now) now.saved now.text rows (insert rows i (f, now)) (reading-inserted present_of f now rows i place)
+    (reading-inserted (λ d. d.saved) f now rows i place) (reading-inserted (λ d. d.text) f now rows i place)
+
+pub kept-in_none : (agreed : Agreed) (f : Path) (rows : List Row) (i : ℕ) (was : Doc) → IsOrdered rows → slice_get rows i ≡ Some (f, was)
+    → documents_of agreed (remove rows i) ≡ with_kept f None (documents_of agreed rows)
+kept-in_none agreed f rows i was ordered is =
+    kept_by agreed f None None None rows (remove rows i) (reading-removed present_of rows i (f, was) ordered is)
+    (reading-removed (λ d. d.saved) rows i (f, was) ordered is) (reading-removed (λ d. d.text) rows i (f, was) ordered is)
+
+-- nothing is kept at a path without a row
+without_absent : (get : Doc → Option Bytes) (f : Path) (rows : List Row) (i : ℕ) → IsPlaceOf f rows i → get (closed_doc None) ≡ None
+    → with_bytes f None (reading get rows) ≡ reading get rows
+without_absent get f rows i place none =
+    ap (λ o. with_bytes f o (reading get rows)) (sym none) ∙ sym (reading-inserted get f (closed_doc None) rows i place) ∙ kept-inserted get f (closed_doc None) rows i none
+
+pub kept-absent : (agreed : Agreed) (f : Path) (rows : List Row) (i : ℕ) → IsPlaceOf f rows i
+    → documents_of agreed rows ≡ with_kept f None (documents_of agreed rows)
+kept-absent agreed f rows i place =
+    kept_by agreed f None None None rows rows (sym (without_absent present_of f rows i place refl))
+    (sym (without_absent (λ d. d.saved) f rows i place refl)) (sym (without_absent (λ d. d.text) f rows i place refl))

@@ -52,12 +52,12 @@ present_at (x ∷ rs) zero r all is = subst (λ (y : Row). IsSome (present_of y.
 present_at (x ∷ rs) (suc i) r all is = present_at rs i r all.1 is
 
 -- ---- what is kept changes
-ArePresent-set : (rows : List Row) (i : ℕ) (now : Doc) → ArePresent rows → IsSome (present_of now) → ArePresent (set_value rows i now)
+pub ArePresent-set : (rows : List Row) (i : ℕ) (now : Doc) → ArePresent rows → IsSome (present_of now) → ArePresent (set_value rows i now)
 ArePresent-set [] i now all some = tt
 ArePresent-set (x ∷ rs) zero now all some = (some, all.1)
 ArePresent-set (x ∷ rs) (suc i) now all some = (all.0, ArePresent-set rs i now all.1 some)
 
-length-set : (rows : List Row) (i : ℕ) (now : Doc) → length (set_value rows i now) ≡ length rows
+pub length-set : (rows : List Row) (i : ℕ) (now : Doc) → length (set_value rows i now) ≡ length rows
 length-set [] i now = refl
 length-set (x ∷ rs) zero now = refl
 length-set (x ∷ rs) (suc i) now = ap suc (length-set rs i now)
@@ -87,13 +87,13 @@ save_holds rows total i r bytes holds is open_is =
     set_holds rows total total i r (saved_doc r.1 bytes) holds is
     (subst IsSome (sym same) (present_open r.1 r.1.text refl open_is)) (ap (λ o. total + size_of o) (sym same)) holds.3
 
-ArePresent-removed : (rows : List Row) (i : ℕ) → ArePresent rows → ArePresent (remove rows i)
+pub ArePresent-removed : (rows : List Row) (i : ℕ) → ArePresent rows → ArePresent (remove rows i)
 ArePresent-removed [] zero all = tt
 ArePresent-removed [] (suc i) all = tt
 ArePresent-removed (x ∷ rs) zero all = all.1
 ArePresent-removed (x ∷ rs) (suc i) all = (all.0, ArePresent-removed rs i all.1)
 
-length-removed : (rows : List Row) (i : ℕ) → length (remove rows i) ≤ length rows
+pub length-removed : (rows : List Row) (i : ℕ) → length (remove rows i) ≤ length rows
 length-removed rows i =
     let whole = ap length (take-append-drop i rows) in
     let parts = length-append (take i rows) (drop i rows) in
@@ -111,12 +111,12 @@ remove_holds rows total n i r holds is sum = (
   omega (arith, sum, holds.3),
 )
 
-ArePresent-inserted : (f : Path) (d : Doc) (rows : List Row) (i : ℕ) → ArePresent rows → IsSome (present_of d) → ArePresent (insert rows i (f, d))
+pub ArePresent-inserted : (f : Path) (d : Doc) (rows : List Row) (i : ℕ) → ArePresent rows → IsSome (present_of d) → ArePresent (insert rows i (f, d))
 ArePresent-inserted f d rows zero all some = (some, all)
 ArePresent-inserted f d [] (suc i) all some = (some, tt)
 ArePresent-inserted f d (x ∷ rs) (suc i) all some = (all.0, ArePresent-inserted f d rs i all.1 some)
 
-length-inserted : (rows : List Row) (i : ℕ) (now : Row) → length (insert rows i now) ≡ suc (length rows)
+pub length-inserted : (rows : List Row) (i : ℕ) (now : Row) → length (insert rows i now) ≡ suc (length rows)
 length-inserted rows i now =
     let whole = ap length (take-append-drop i rows) in
     let parts = length-append (take i rows) (drop i rows) in

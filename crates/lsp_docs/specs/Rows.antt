@@ -1,14 +1,17 @@
 -- The rows of the documents, one a path, and what they say: the project, the saved texts and the open paths.
-use Rattle.std.specs.Prelude.{◌≡◌, ◌≢◌, ℕ, List, [], ◌∷◌, length, slice_get, encode_utf8_all, Option, Some, None, IsSome, Result, Err, Bool}
+use Rattle.std.specs.Prelude.{◌≡◌, ◌≢◌, ℕ, ◌≤◌, List, [], ◌∷◌, length, slice_get, encode_utf8_all, Option, Some, None, IsSome, Result, Err, Bool}
 use Rattle.srb_terms.specs.PathMaps.{IsOrdered}
 use Rattle.srb_terms.specs.Projects.{File}
+use Rattle.lsp_docs.specs.declared.applied.Applied.{Applied}
 use Rattle.lsp_docs.specs.declared.doc.Doc.{Doc}
 use Rattle.lsp_docs.specs.declared.doc_end.DocEnd.{DocEnd}
 use Rattle.lsp_docs.specs.declared.doc_end.DocEnd.TheVariants.{NoMemory}
-use Rattle.lsp_docs.specs.Paths.{Path, Bytes}
-use Rattle.lsp_docs.specs.Projects.{Project, paths_of}
+use Rattle.lsp_docs.specs.declared.plan.Plan.{Plan}
+use Rattle.lsp_docs.specs.Paths.{Path, Bytes, with_path, without_path}
+use Rattle.lsp_docs.specs.Projects.{Project, paths_of, total_bytes, with_bytes}
 use Rattle.srb_text.specs.declared.Encoding.{Encoding}
-use Rattle.lsp_docs.specs.Documents.{Agreed, Documents, Deed, IsDoneFor}
+use Rattle.srb_text.specs.Limits.{MOST_BYTES}
+use Rattle.lsp_docs.specs.Documents.{Agreed, Documents, Deed, MOST_FILES, IsDoneFor}
 
 -- a path and what is kept there
 abbrev pub Row : Type 0
@@ -83,19 +86,57 @@ pub record IsOpenAt (f : Path) (rows : List Row) (i : ℕ) (text : List ℕ) : T
 abbrev pub agreed_on : List ℕ → Encoding → Agreed
 agreed_on root encoding = record { root = root; encoding = encoding }
 
+-- what is read of what is kept at a path, if anything is
+abbrev pub reads : {X : Type 0} → (Doc → Option X) → Option Doc → Option X
+reads has None = None
+reads has (Some d) = has d
+
+-- the set with the path where something is read, else without it
+abbrev pub path_if : Path → Option (List ℕ) → List Path → List Path
+path_if f None fs = without_path f fs
+path_if f (Some text) fs = with_path f fs
+
+-- the documents with this kept at the path
+abbrev pub with_kept : Path → Option Doc → Documents → Documents
+with_kept f kept d = record d {
+  project = with_bytes f (reads present_of kept) d.project;
+  saved = with_bytes f (reads (λ x. x.saved) kept) d.saved;
+  opened = path_if f (reads (λ x. x.text) kept) d.opened;
+}
+
+-- the documents after what a plan says
+abbrev pub planned : Plan → Documents → Documents
+planned plan d = with_kept plan.path plan.kept d
+
+-- what is told of a plan: its path, and whether it edits
+abbrev pub told_of_plan : Plan → Applied
+told_of_plan plan = record { path = plan.path; edit = plan.edit }
+
+-- what is kept has present bytes
+abbrev pub IsPresent : Option Doc → Type 0
+IsPresent None = Unit {0}
+IsPresent (Some d) = IsSome (present_of d)
+
+-- With this kept at the path the project has no more files and bytes than it may have.
+pub record HasRoom (f : Path) (kept : Option Doc) (p : Project) : Type 0 where
+  pub present : IsPresent kept
+  pub files : length (with_bytes f (reads present_of kept) p) ≤ MOST_FILES
+  pub bytes : total_bytes (with_bytes f (reads present_of kept) p) ≤ MOST_BYTES
+
 -- what is done to documents, which may be refused
 abbrev pub Rule : Type 0
 Rule = Documents → Result Deed DocEnd
 
--- The rule's deed is done, which is told by its path and by whether it edits, whatever was agreed on.
-abbrev pub IsDoneBy : Rule → Path → Bool → List Row → List Row → Type 0
-IsDoneBy rule f edit old new =
-    (agreed : Agreed) → IsDoneFor (rule (documents_of agreed old)) (documents_of agreed old) (documents_of agreed new) (record { path = f; edit = edit })
+-- The rule's deed is to keep this at the path, which is told by the path and by whether it edits, whatever was agreed on.
+abbrev pub IsPlannedBy : Rule → Path → Bool → List Row → Option Doc → Type 0
+IsPlannedBy rule f edit rows kept =
+    (agreed : Agreed) → IsDoneFor (rule (documents_of agreed rows)) (documents_of agreed rows) (with_kept f kept (documents_of agreed rows)) (record { path = f; edit = edit })
 
 -- The same where this encoding was agreed on.
-abbrev pub IsDoneIn : Encoding → Rule → Path → Bool → List Row → List Row → Type 0
-IsDoneIn encoding rule f edit old new =
-    (root : List ℕ) → IsDoneFor (rule (documents_of (agreed_on root encoding) old)) (documents_of (agreed_on root encoding) old) (documents_of (agreed_on root encoding) new) (record { path = f; edit = edit })
+abbrev pub IsPlannedIn : Encoding → Rule → Path → Bool → List Row → Option Doc → Type 0
+IsPlannedIn encoding rule f edit rows kept =
+    (root : List ℕ) → IsDoneFor (rule (documents_of (agreed_on root encoding) rows)) (documents_of (agreed_on root encoding) rows)
+    (with_kept f kept (documents_of (agreed_on root encoding) rows)) (record { path = f; edit = edit })
 
 -- the rule refuses for this, or there was no memory
 abbrev pub IsRefusedBy : Rule → List Row → DocEnd → Type 0

@@ -1,6 +1,6 @@
 ghost use Rattle.std.specs.Prelude.{◌≡◌, IfOk};
 ghost use Rattle.std.specs.Option.{option_copied};
-ghost use Rattle.lsp_docs.specs.Rows.{present_of, size_of};
+ghost use Rattle.lsp_docs.specs.Rows.{closed_doc, opened_doc, present_of, saved_doc, size_of};
 
 use srb_terms::{Boxed, Items, NoMemory};
 use srb_text::Text;
@@ -45,6 +45,36 @@ impl Doc {
         Ok(Doc {
             saved: copied_if(&self.saved)?,
             text: copied_if(&self.text)?,
+        })
+    }
+
+    /// The same with this text, so open.
+    pub fn opened(&self, text: Boxed<Text>) -> Result<Doc, NoMemory>
+        ensures { IfOk result (λ doc. doc ≡ opened_doc self.now text) }
+    {
+        Ok(Doc {
+            saved: copied_if(&self.saved)?,
+            text: Some(text),
+        })
+    }
+
+    /// The same with these bytes as the saved ones.
+    pub fn saved_as(&self, bytes: Boxed<Items<u8>>) -> Result<Doc, NoMemory>
+        ensures { IfOk result (λ doc. doc ≡ saved_doc self.now bytes) }
+    {
+        Ok(Doc {
+            saved: Some(bytes),
+            text: copied_if(&self.text)?,
+        })
+    }
+
+    /// The same where it isn't open.
+    pub fn closed(&self) -> Result<Doc, NoMemory>
+        ensures { IfOk result (λ doc. doc ≡ closed_doc self.now.saved) }
+    {
+        Ok(Doc {
+            saved: copied_if(&self.saved)?,
+            text: None,
         })
     }
 }

@@ -5,11 +5,12 @@ ghost use Rattle.srb_terms.specs.Projects.{bytes_at};
 ghost use Rattle.lsp_docs.specs.declared.doc_end.DocEnd.TheVariants.{Foreign, NoMemory};
 ghost use Rattle.lsp_docs.specs.Projects.{paths_of, total_bytes};
 ghost use Rattle.lsp_docs.specs.Documents.{MOST_FILES, AreDocuments, IsAccepted, IsDoneFor, IsRefused, Saves, applied, changes_now, closes, no_documents, opens, path_of, placed, uri_of, where_named, where_open};
+ghost use Rattle.lsp_docs.specs.Rows.{HasRoom, planned, told_of_plan};
 ghost use Rattle.lsp_docs.specs.Uris.{root_of};
 ghost use Rattle.srb_text.specs.Limits.{MOST_BYTES};
 
 use crate::rows::Rows;
-use crate::{Applied, DocEnd, apply, places, texts, uris};
+use crate::{Applied, DocEnd, Plan, apply, places, texts, uris};
 use lsp_msg::{Change, Msg, Placed};
 use srb_terms::{Diag, Items, Name, NoMemory, Project, Words};
 use srb_text::Encoding;
@@ -76,13 +77,12 @@ impl Docs {
         self.encoding = encoding;
     }
 
-    /// Does what a message about a document does, or says why it is refused: the first refusal that fits. After an
-    /// error the documents are as they were.
-    pub fn apply(&mut self, alloc: Global, m: &Msg) -> Result<Applied, DocEnd>
-        requires { IsSome (applied self.old m.now) }
-        ensures accepted { IfOk result (IsAccepted self.old m.now self.new) }
-        ensures refused { IfErr result (IsRefused self.old m.now) }
-        ensures unchanged { OnErr result (self.new ≡ self.old) }
+    /// What a message about a document is to do, or why it is refused: the first refusal that fits.
+    pub fn plan(&self, alloc: Global, m: &Msg) -> Result<Plan, DocEnd>
+        requires { IsSome (applied self.now m.now) }
+        ensures accepted { IfOk result (λ plan. IsAccepted self.now m.now (planned plan self.now) (told_of_plan plan)) }
+        ensures room { IfOk result (λ plan. HasRoom plan.path plan.kept self.now.project) }
+        ensures refused { IfErr result (IsRefused self.now m.now) }
     {
         match m {
             Msg::Opened { uri, text } => self.open(alloc, uri, text),
@@ -91,6 +91,38 @@ impl Docs {
             Msg::Closed { uri } => self.close(alloc, uri),
             _ => unreachable!(),
         }
+    }
+
+    /// Does what was planned. It takes memory only where the project has no file at the path, and without memory the documents are as they were.
+    pub fn enact(&mut self, plan: Plan) -> Result<(), NoMemory>
+        requires { HasRoom plan.path plan.kept self.old.project }
+        ensures done { OnOk result (self.new ≡ planned plan self.old) }
+        ensures err { OnErr result (self.new ≡ self.old) }
+        ensures known { IsSome (bytes_at plan.path self.old.project) → IfErr result (λ e. ⊥) }
+    {
+        let Plan {
+            path,
+            kept,
+            edit: _,
+        } = plan;
+        self.rows.put(path, kept)
+    }
+
+    /// Does what a message about a document does, or says why it is refused: the first refusal that fits. After an
+    /// error the documents are as they were.
+    pub fn apply(&mut self, alloc: Global, m: &Msg) -> Result<Applied, DocEnd>
+        requires { IsSome (applied self.old m.now) }
+        ensures accepted { IfOk result (IsAccepted self.old m.now self.new) }
+        ensures refused { IfErr result (IsRefused self.old m.now) }
+        ensures unchanged { OnErr result (self.new ≡ self.old) }
+    {
+        let plan = self.plan(alloc, m)?;
+        let applied = Applied {
+            path: plan.path.copied()?,
+            edit: plan.edit,
+        };
+        self.enact(plan)?;
+        Ok(applied)
     }
 
     /// The present bytes of the file at `path`. `None` exactly where the project has no such file.
@@ -166,43 +198,63 @@ impl Docs {
         }
     }
 
-    fn open(&mut self, alloc: Global, uri: &Words, text: &Words) -> Result<Applied, DocEnd>
-        ensures accepted { IfOk result (IsDoneFor (where_named self.old uri.now (opens self.old text.now)) self.old self.new) }
-        ensures refused { IfErr result (λ e. e ≢ NoMemory → where_named self.old uri.now (opens self.old text.now) ≡ Err e) }
-        ensures unchanged { OnErr result (self.new ≡ self.old) }
+    // What `didOpen` is to do.
+    fn open(&self, alloc: Global, uri: &Words, text: &Words) -> Result<Plan, DocEnd>
+        ensures planned { IfOk result (λ plan. IsDoneFor (where_named self.now uri.now (opens self.now text.now)) self.now (planned plan self.now) (told_of_plan plan)) }
+        ensures room { IfOk result (λ plan. HasRoom plan.path plan.kept self.now.project) }
+        ensures refused { IfErr result (λ e. e ≢ NoMemory → where_named self.now uri.now (opens self.now text.now) ≡ Err e) }
     {
         let path = self.named(alloc, uri)?;
-        apply::open(alloc, &mut self.rows, &path, text)?;
-        Ok(Applied { path, edit: true })
+        let doc = apply::open(alloc, &self.rows, &path, text)?;
+        Ok(Plan {
+            path,
+            kept: Some(doc),
+            edit: true,
+        })
     }
 
-    fn change(&mut self, alloc: Global, uri: &Words, changes: &[Change]) -> Result<Applied, DocEnd>
-        ensures accepted { IfOk result (IsDoneFor (where_open self.old uri.now (changes_now self.old changes.now)) self.old self.new) }
-        ensures refused { IfErr result (λ e. e ≢ NoMemory → where_open self.old uri.now (changes_now self.old changes.now) ≡ Err e) }
-        ensures unchanged { OnErr result (self.new ≡ self.old) }
+    // What `didChange` is to do.
+    fn change(&self, alloc: Global, uri: &Words, changes: &[Change]) -> Result<Plan, DocEnd>
+        ensures planned { IfOk result (λ plan. IsDoneFor (where_open self.now uri.now (changes_now self.now changes.now)) self.now (planned plan self.now) (told_of_plan plan)) }
+        ensures room { IfOk result (λ plan. HasRoom plan.path plan.kept self.now.project) }
+        ensures refused { IfErr result (λ e. e ≢ NoMemory → where_open self.now uri.now (changes_now self.now changes.now) ≡ Err e) }
     {
         let path = self.named(alloc, uri)?;
-        apply::change(alloc, &mut self.rows, &path, changes, self.encoding)?;
-        Ok(Applied { path, edit: true })
+        let doc = apply::change(alloc, &self.rows, &path, changes, self.encoding)?;
+        Ok(Plan {
+            path,
+            kept: Some(doc),
+            edit: true,
+        })
     }
 
-    fn save(&mut self, alloc: Global, uri: &Words) -> Result<Applied, DocEnd>
-        ensures accepted { IfOk result (IsDoneFor (where_open self.old uri.now (λ f. Ok (Saves f))) self.old self.new) }
-        ensures refused { IfErr result (λ e. e ≢ NoMemory → where_open self.old uri.now (λ f. Ok (Saves f)) ≡ Err e) }
-        ensures unchanged { OnErr result (self.new ≡ self.old) }
+    // What `didSave` is to do.
+    fn save(&self, alloc: Global, uri: &Words) -> Result<Plan, DocEnd>
+        ensures planned { IfOk result (λ plan. IsDoneFor (where_open self.now uri.now (λ f. Ok (Saves f))) self.now (planned plan self.now) (told_of_plan plan)) }
+        ensures room { IfOk result (λ plan. HasRoom plan.path plan.kept self.now.project) }
+        ensures refused { IfErr result (λ e. e ≢ NoMemory → where_open self.now uri.now (λ f. Ok (Saves f)) ≡ Err e) }
     {
         let path = self.named(alloc, uri)?;
-        apply::save(alloc, &mut self.rows, &path)?;
-        Ok(Applied { path, edit: false })
+        let doc = apply::save(alloc, &self.rows, &path)?;
+        Ok(Plan {
+            path,
+            kept: Some(doc),
+            edit: false,
+        })
     }
 
-    fn close(&mut self, alloc: Global, uri: &Words) -> Result<Applied, DocEnd>
-        ensures accepted { IfOk result (IsDoneFor (where_open self.old uri.now (closes self.old)) self.old self.new) }
-        ensures refused { IfErr result (λ e. e ≢ NoMemory → where_open self.old uri.now (closes self.old) ≡ Err e) }
-        ensures unchanged { OnErr result (self.new ≡ self.old) }
+    // What `didClose` is to do.
+    fn close(&self, alloc: Global, uri: &Words) -> Result<Plan, DocEnd>
+        ensures planned { IfOk result (λ plan. IsDoneFor (where_open self.now uri.now (closes self.now)) self.now (planned plan self.now) (told_of_plan plan)) }
+        ensures room { IfOk result (λ plan. HasRoom plan.path plan.kept self.now.project) }
+        ensures refused { IfErr result (λ e. e ≢ NoMemory → where_open self.now uri.now (closes self.now) ≡ Err e) }
     {
         let path = self.named(alloc, uri)?;
-        apply::close(&mut self.rows, &path)?;
-        Ok(Applied { path, edit: true })
+        let kept = apply::close(&self.rows, &path)?;
+        Ok(Plan {
+            path,
+            kept,
+            edit: true,
+        })
     }
 }

@@ -15,11 +15,14 @@ mod doc_end;
 mod docs;
 pub mod law;
 mod places;
+mod plan;
 mod rows;
 mod texts;
 mod uris;
 
 pub use applied::Applied;
 pub use apply::FILES_LIMIT;
+pub use doc::Doc;
 pub use doc_end::DocEnd;
 pub use docs::Docs;
+pub use plan::Plan;

@@ -1,12 +1,13 @@
 //! The rows of the documents, one a path.
-ghost use Rattle.std.specs.Prelude.{◌≡◌, ◌+◌, ◌<◌, ◌≤◌, length, map, slice_get, insert, remove, encode_utf8_all, false, Some, None, IsSome, IfSome, IfNone, IfOk, IfErr, OnOk, OnErr};
+ghost use Rattle.std.specs.Prelude.{◌≡◌, ◌+◌, ◌<◌, ◌≤◌, length, map, slice_get, insert, remove, false, Some, IsSome, IfSome, IfNone, IfOk, IfErr, OnOk, OnErr};
 ghost use Rattle.std.specs.Option.{option_map};
 ghost use Rattle.srb_terms.specs.PathMaps.{IsEntryOf, IsPlaceOf, set_value};
 ghost use Rattle.lsp_docs.specs.Paths.{has};
 ghost use Rattle.lsp_docs.specs.Projects.{paths_of, total_bytes};
-ghost use Rattle.lsp_docs.specs.Documents.{MOST_FILES};
+ghost use Rattle.srb_terms.specs.Projects.{bytes_at};
+ghost use Rattle.lsp_docs.specs.Documents.{MOST_FILES, Agreed};
 ghost use Rattle.srb_text.specs.Limits.{MOST_BYTES};
-ghost use Rattle.lsp_docs.specs.Rows.{AreRows, IsOpenAt, Row, closed_doc, closed_row, opened_doc, present_of, project_of, reading, saved_doc, size_of};
+ghost use Rattle.lsp_docs.specs.Rows.{AreRows, HasRoom, IsOpenAt, Row, closed_row, documents_of, present_of, project_of, reading, size_of, with_kept};
 
 use crate::doc::Doc;
 use srb_terms::{Boxed, Entry, Items, Name, NoMemory, PathMap, Project};
@@ -90,6 +91,8 @@ impl Rows {
         ensures found { IfOk result (IsEntryOf path.now self.now) }
         ensures absent { IfErr result (IsPlaceOf path.now self.now) }
         ensures rows { AreRows self.now }
+        ensures count { length self.now ≤ MOST_FILES }
+        ensures bytes { total_bytes (project_of self.now) ≤ MOST_BYTES }
     {
         self.map.find(path.as_str())
     }
@@ -108,6 +111,8 @@ impl Rows {
         ensures open { IfSome result (λ found. IsOpenAt path.now self.now found.0 found.1.now) }
         ensures none { IfNone result (has path.now (paths_of (reading (λ d. d.text) self.now)) ≡ false) }
         ensures rows { AreRows self.now }
+        ensures count { length self.now ≤ MOST_FILES }
+        ensures bytes { total_bytes (project_of self.now) ≤ MOST_BYTES }
     {
         match self.find(path) {
             Ok(index) => match &self.doc(index).text {
@@ -124,64 +129,62 @@ impl Rows {
         ensures sum { (r : Row) → slice_get self.now index ≡ Some r → result + size_of (present_of r.1) ≡ total_bytes (project_of self.now) }
         ensures bound { result ≤ MOST_BYTES }
         ensures most { total_bytes (project_of self.now) ≤ MOST_BYTES }
+        ensures count { length self.now ≤ MOST_FILES }
     {
         self.total - self.doc(index).size()
     }
 
-    /// Puts a text in the row at `index`, which is open then.
-    pub fn open(&mut self, index: usize, text: Boxed<Text>)
-        requires within { index < length self.old }
-        requires fits { (r : Row) → slice_get self.old index ≡ Some r → total_bytes (project_of self.old) + length (encode_utf8_all text) ≤ MOST_BYTES + size_of (present_of r.1) }
-        ensures { (r : Row) → slice_get self.old index ≡ Some r → self.new ≡ set_value self.old index (opened_doc r.1 text) }
+    /// Keeps this at the path from now on, or nothing. It takes memory only where the path has no row yet.
+    pub fn put(&mut self, path: Name, kept: Option<Doc>) -> Result<(), NoMemory>
+        requires { HasRoom path kept (project_of self.old) }
+        ensures kept { OnOk result ((agreed : Agreed) → documents_of agreed self.new ≡ with_kept path kept (documents_of agreed self.old)) }
+        ensures err { OnErr result (self.new ≡ self.old) }
+        ensures known { IsSome (bytes_at path (project_of self.old)) → IfErr result (λ e. ⊥) }
     {
-        let doc = self.map.value_mut(index);
-        self.total = self.total - doc.size() + text.get().as_str().len();
-        doc.text = Some(text);
+        match self.find(&path) {
+            Ok(index) => {
+                match kept {
+                    Some(doc) => self.set(index, doc),
+                    None => self.remove(index),
+                }
+                Ok(())
+            }
+            Err(index) => match kept {
+                Some(doc) => self.insert(index, path, doc),
+                None => Ok(()),
+            },
+        }
     }
 
-    /// Adds an open row before that at `index`.
-    pub fn insert(&mut self, index: usize, path: &Name, text: Boxed<Text>) -> Result<(), NoMemory>
-        requires place { IsPlaceOf path.now self.old index }
+    /// Keeps this in the row at `index`.
+    fn set(&mut self, index: usize, doc: Doc)
+        requires within { index < length self.old }
+        requires present { IsSome (present_of doc) }
+        requires fits { (r : Row) → slice_get self.old index ≡ Some r → total_bytes (project_of self.old) + size_of (present_of doc) ≤ MOST_BYTES + size_of (present_of r.1) }
+        ensures { self.new ≡ set_value self.old index doc }
+    {
+        let row = self.map.value_mut(index);
+        self.total = self.total - row.size() + doc.size();
+        *row = doc;
+    }
+
+    /// Adds a row before that at `index`.
+    fn insert(&mut self, index: usize, path: Name, doc: Doc) -> Result<(), NoMemory>
+        requires place { IsPlaceOf path self.old index }
         requires room { length self.old < MOST_FILES }
-        requires fits { total_bytes (project_of self.old) + length (encode_utf8_all text) ≤ MOST_BYTES }
-        ensures ok { OnOk result (self.new ≡ insert self.old index (path.now, record { saved = None; text = Some text })) }
+        requires present { IsSome (present_of doc) }
+        requires fits { total_bytes (project_of self.old) + size_of (present_of doc) ≤ MOST_BYTES }
+        ensures ok { OnOk result (self.new ≡ insert self.old index (path, doc)) }
         ensures err { OnErr result (self.new ≡ self.old) }
     {
-        let size = text.get().as_str().len();
-        let doc = Doc {
-            saved: None,
-            text: Some(text),
-        };
-        self.map.insert(index, path.copied()?, doc)?;
+        let size = doc.size();
+        self.map.insert(index, path, doc)?;
         self.total += size;
         Ok(())
     }
 
-    /// Puts the bytes as the saved ones of the row at `index`, which is open.
-    pub fn save(&mut self, index: usize, bytes: Boxed<Items<u8>>)
-        requires within { index < length self.old }
-        requires open { (r : Row) → slice_get self.old index ≡ Some r → IsSome r.1.text }
-        ensures { (r : Row) → slice_get self.old index ≡ Some r → self.new ≡ set_value self.old index (saved_doc r.1 bytes) }
-    {
-        let doc = self.map.value_mut(index);
-        doc.saved = Some(bytes);
-    }
-
-    /// Closes the row at `index`, which has saved bytes: these are the present ones then.
-    pub fn close(&mut self, index: usize)
-        requires within { index < length self.old }
-        requires saved { (r : Row) → slice_get self.old index ≡ Some r → IsSome r.1.saved }
-        requires fits { (r : Row) → slice_get self.old index ≡ Some r → total_bytes (project_of self.old) + size_of r.1.saved ≤ MOST_BYTES + size_of (present_of r.1) }
-        ensures { (r : Row) → slice_get self.old index ≡ Some r → self.new ≡ set_value self.old index (closed_doc r.1.saved) }
-    {
-        let doc = self.map.value_mut(index);
-        let size = doc.size();
-        doc.text = None;
-        self.total = self.total - size + doc.size();
-    }
-
     /// Takes the row at `index` out.
-    pub fn remove(&mut self, index: usize)
+    fn remove(&mut self, index: usize)
         requires { index < length self.old }
         ensures { self.new ≡ remove self.old index }
     {

@@ -1,7 +1,8 @@
-use Rattle.std.proofs.Common.{arith}
+use Rattle.std.proofs.Common.{ap, ◌∙◌, arith}
 use Rattle.srb_terms.proofs.PathOrder.{entry_within}
-use Rattle.lsp_docs.specs.Rows.{Row, agreed_on}
-use Rattle.lsp_docs.proofs.ApplyLemmas.{err_is, open_size, changes_done, changes_refused}
+use Rattle.lsp_docs.specs.Rows.{agreed_on, opened_doc}
+use Rattle.lsp_docs.proofs.RowsHold.{same_doc}
+use Rattle.lsp_docs.proofs.ApplyLemmas.{err_is, has_text, open_size, changes_done, changes_refused, room_in_row, text_size}
 use Rattle.lsp_docs.proofs.apply.change.Goals as goal
 
 pub others-requires : goal.others-requires
@@ -23,17 +24,21 @@ returns-in_err-text-clause-refused c =
     changes_refused (agreed_on root c.args.encoding) c.args.path.now c.args.rows.now c.in-Some.index c.in-Some.text.now c.args.changes.now c.others.result e c.find_open.ensures.rows at
     c.changed.ensures.spelled (c.others.ensures.sum (c.args.path.now, at.doc) at.here) (c.in_err-text.ensures.refused other))
 
-pub open-requires-clause-within : goal.open-requires-clause-within
-open-requires-clause-within c = entry_within c.args.rows.now c.in-Some.index _ c.in-Some.ensures.«open».here
+pub doc-requires : goal.doc-requires
+doc-requires c = entry_within c.args.rows.now c.in-Some.index _ c.in-Some.ensures.«open».here
 
-pub open-requires-clause-fits : goal.open-requires-clause-fits
-open-requires-clause-fits c = λ r get.
-    let sum = c.others.ensures.sum r get in
-    omega (arith, sum, c.in_ok-text.ensures.fits)
-
-pub returns-clause-done : goal.returns-clause-done
-returns-clause-done c = λ root.
+pub returns-clause-planned : goal.returns-clause-planned
+returns-clause-planned c = λ root.
     let at = c.in-Some.ensures.«open» in
-    let row : Row = (c.args.path.now, at.doc) in
-    changes_done (agreed_on root c.args.encoding) c.args.path.now c.args.rows.now c.«open».new.self c.in-Some.index c.in-Some.text.now c.in_ok-text.text c.args.changes.now
-    c.others.result c.find_open.ensures.rows at c.changed.ensures.spelled (c.others.ensures.sum row at.here) (c.in_ok-text.ensures.changed) (c.«open».ensures row at.here)
+    let here = same_doc c.args.rows.now c.in-Some.index c.doc.result.now (c.args.path.now, at.doc) c.doc.ensures.doc at.here in
+    changes_done (agreed_on root c.args.encoding) c.args.path.now c.args.rows.now c.in-Some.index c.in-Some.text.now c.in_ok-text.text c.in_ok-opened.field-0 c.args.changes.now
+    c.others.result c.find_open.ensures.rows at c.changed.ensures.spelled (c.others.ensures.sum (c.args.path.now, at.doc) at.here) (c.in_ok-text.ensures.changed)
+    (c.in_ok-opened.ensures ∙ ap (λ d. opened_doc d c.in_ok-text.text) here)
+
+pub returns-clause-room : goal.returns-clause-room
+returns-clause-room c =
+    let at = c.in-Some.ensures.«open» in
+    let size = text_size c.in_ok-opened.field-0 c.doc.result.now c.in_ok-text.text c.in_ok-opened.ensures in
+    room_in_row c.args.path.now c.args.rows.now c.in-Some.index at.doc c.in_ok-opened.field-0 c.others.result c.find_open.ensures.rows c.others.ensures.count at.here
+    (has_text c.in_ok-opened.field-0 c.doc.result.now c.in_ok-text.text c.in_ok-opened.ensures) (c.others.ensures.sum (c.args.path.now, at.doc) at.here)
+    (omega (arith, size, c.in_ok-text.ensures.fits))

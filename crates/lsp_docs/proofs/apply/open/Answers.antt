@@ -1,9 +1,9 @@
-use Rattle.std.proofs.Common.{length, sym, ap, ◌∙◌, arith}
+use Rattle.std.proofs.Common.{length, sym, ap, ap₂, ◌∙◌, arith}
 use Rattle.std.specs.Prelude.{Err, encode_utf8_all}
-use Rattle.srb_terms.specs.PathMaps.{set_value}
 use Rattle.srb_terms.proofs.PathOrder.{entry_within}
-use Rattle.lsp_docs.specs.Rows.{Row, opened_doc}
-use Rattle.lsp_docs.proofs.ApplyLemmas.{err_is, opens_again, opens_again_big}
+use Rattle.lsp_docs.specs.Rows.{opened_doc}
+use Rattle.lsp_docs.proofs.RowsHold.{same_doc}
+use Rattle.lsp_docs.proofs.ApplyLemmas.{err_is, has_text, opens_again, opens_again_big, room_in_row, text_size}
 use Rattle.lsp_docs.proofs.apply.open.Goals as goal
 
 pub others-requires : goal.others-requires
@@ -19,19 +19,21 @@ returns-in_err-text-in-Ok-clause-refused c =
     (c.others.ensures.sum (c.args.path.now, found.0) found.1) why.1
     ∙ ap Err (sym why.0))
 
-pub open-requires-clause-within : goal.open-requires-clause-within
-open-requires-clause-within c = entry_within c.args.rows.now c.in-Ok.index _ c.in-Ok.ensures.found.1
+pub doc-requires : goal.doc-requires
+doc-requires c = entry_within c.args.rows.now c.in-Ok.index _ c.in-Ok.ensures.found.1
 
-pub open-requires-clause-fits : goal.open-requires-clause-fits
-open-requires-clause-fits c = λ r get.
-    let sum = c.others.ensures.sum r get in
-    let size = ap (λ t. length (encode_utf8_all t)) c.in_ok-text-in-Ok.ensures.made ∙ ap length c.held_text.ensures.spelled in
-    omega (arith, sum, size, c.in_ok-text-in-Ok.ensures.fits)
-
-pub returns-in_ok-text-in-Ok-clause-done : goal.returns-in_ok-text-in-Ok-clause-done
-returns-in_ok-text-in-Ok-clause-done c = λ agreed.
+pub returns-in_ok-opened-in-Ok-clause-planned : goal.returns-in_ok-opened-in-Ok-clause-planned
+returns-in_ok-opened-in-Ok-clause-planned c = λ agreed.
     let found = c.in-Ok.ensures.found in
-    let row : Row = (c.args.path.now, found.0) in
-    opens_again agreed c.args.path.now c.args.rows.now c.«open».new.self c.in-Ok.index found.0 c.args.text.now c.others.result c.find.ensures.rows found.1
-    (c.«open».ensures row found.1 ∙ ap (λ t. set_value c.args.rows.now c.in-Ok.index (opened_doc found.0 t)) c.in_ok-text-in-Ok.ensures.made)
-    c.held_text.ensures.spelled (c.others.ensures.sum row found.1) c.in_ok-text-in-Ok.ensures.fits
+    let here = same_doc c.args.rows.now c.in-Ok.index c.doc.result.now (c.args.path.now, found.0) c.doc.ensures.doc found.1 in
+    opens_again agreed c.args.path.now c.args.rows.now c.in-Ok.index found.0 c.in_ok-opened-in-Ok.field-0 c.args.text.now c.others.result c.find.ensures.rows found.1
+    (c.in_ok-opened-in-Ok.ensures ∙ ap₂ opened_doc here c.in_ok-text-in-Ok.ensures.made)
+    c.held_text.ensures.spelled (c.others.ensures.sum (c.args.path.now, found.0) found.1) c.in_ok-text-in-Ok.ensures.fits
+
+pub returns-in_ok-opened-in-Ok-clause-room : goal.returns-in_ok-opened-in-Ok-clause-room
+returns-in_ok-opened-in-Ok-clause-room c =
+    let found = c.in-Ok.ensures.found in
+    let size = text_size c.in_ok-opened-in-Ok.field-0 c.doc.result.now c.in_ok-text-in-Ok.text c.in_ok-opened-in-Ok.ensures ∙ ap (λ t. length (encode_utf8_all t)) c.in_ok-text-in-Ok.ensures.made ∙ ap length c.held_text.ensures.spelled in
+    room_in_row c.args.path.now c.args.rows.now c.in-Ok.index found.0 c.in_ok-opened-in-Ok.field-0 c.others.result c.find.ensures.rows c.others.ensures.count found.1
+    (has_text c.in_ok-opened-in-Ok.field-0 c.doc.result.now c.in_ok-text-in-Ok.text c.in_ok-opened-in-Ok.ensures) (c.others.ensures.sum (c.args.path.now, found.0) found.1)
+    (omega (arith, size, c.in_ok-text-in-Ok.ensures.fits))

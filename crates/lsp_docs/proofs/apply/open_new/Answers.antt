@@ -1,7 +1,7 @@
-use Rattle.std.proofs.Common.{◌+◌, length, insert, Some, None, sym, ap, ◌∙◌, arith}
+use Rattle.std.proofs.Common.{◌+◌, length, refl, sym, ap, ◌∙◌, arith}
 use Rattle.std.specs.Prelude.{Err, encode_utf8_all}
 use Rattle.lsp_docs.specs.declared.doc_end.DocEnd.TheVariants.{TooMany, TooBig}
-use Rattle.lsp_docs.proofs.ApplyLemmas.{err_is, opens_many, opens_new, opens_new_big}
+use Rattle.lsp_docs.proofs.ApplyLemmas.{err_is, opens_many, opens_new, opens_new_big, room_in_new}
 use Rattle.lsp_docs.proofs.apply.open_new.Goals as goal
 
 pub returns-then-count-ge-FILES_LIMIT-clause-refused : goal.returns-then-count-ge-FILES_LIMIT-clause-refused
@@ -21,15 +21,16 @@ returns-in_err-text-clause-refused c =
     (omega (arith, total, why.1))
     ∙ ap (λ n. Err (TooBig (n + length c.args.text.now))) (sym total) ∙ ap Err (sym why.0))
 
-pub insert-requires-clause-fits : goal.insert-requires-clause-fits
-insert-requires-clause-fits c =
-    let size = ap (λ t. length (encode_utf8_all t)) c.in_ok-text.ensures.made ∙ ap length c.held_text.ensures.spelled in
-    omega (arith, c.total.ensures.total, size, c.in_ok-text.ensures.fits)
-
-pub returns-clause-done : goal.returns-clause-done
-returns-clause-done c = λ agreed.
+pub returns-clause-planned : goal.returns-clause-planned
+returns-clause-planned c = λ agreed.
     let count = ap length c.entries-count.ensures.entries in
     let total = c.total.ensures.total in
-    opens_new agreed c.args.path.now c.args.rows.now c.insert.new.self c.args.index c.args.text.now c.entries-count.ensures.rows c.requires (omega (arith, count, c.if-count-ge-FILES_LIMIT.false))
-    (c.in_ok-insert.ensures.ok ∙ ap (λ t. insert c.args.rows.now c.args.index (c.args.path.now, record { saved = None; text = Some t })) c.in_ok-text.ensures.made)
-    c.held_text.ensures.spelled (omega (arith, total, c.in_ok-text.ensures.fits))
+    opens_new agreed c.args.path.now c.args.rows.now c.args.index c.in_ok-text.text c.args.text.now c.entries-count.ensures.rows c.requires
+    (omega (arith, count, c.if-count-ge-FILES_LIMIT.false)) c.in_ok-text.ensures.made c.held_text.ensures.spelled (omega (arith, total, c.in_ok-text.ensures.fits))
+
+pub returns-clause-room : goal.returns-clause-room
+returns-clause-room c =
+    let count = ap length c.entries-count.ensures.entries in
+    let size = ap (λ t. length (encode_utf8_all t)) c.in_ok-text.ensures.made ∙ ap length c.held_text.ensures.spelled in
+    room_in_new c.args.path.now c.args.rows.now c.args.index _ c.entries-count.ensures.rows c.requires (omega (arith, count, c.if-count-ge-FILES_LIMIT.false))
+    refl (omega (arith, c.total.ensures.total, size, c.in_ok-text.ensures.fits))

@@ -1,21 +1,23 @@
-use Rattle.std.proofs.Common.{◌≡◌, Some, ap, ◌∙◌, subst}
-use Rattle.std.specs.Prelude.{is_some}
+use Rattle.std.proofs.Common.{ap, ◌∙◌}
 use Rattle.srb_terms.proofs.PathOrder.{entry_within}
-use Rattle.lsp_docs.specs.Rows.{Row}
-use Rattle.lsp_docs.proofs.RowsHold.{same_row}
-use Rattle.lsp_docs.proofs.ApplyLemmas.{saves_done}
+use Rattle.lsp_docs.specs.Rows.{saved_doc}
+use Rattle.lsp_docs.proofs.RowsHold.{same_doc}
+use Rattle.lsp_docs.proofs.ApplyLemmas.{saves_done, room_as_present}
 use Rattle.lsp_docs.proofs.apply.save.Goals as goal
 
-pub save-requires-clause-within : goal.save-requires-clause-within
-save-requires-clause-within c = entry_within c.args.rows.now c.in-Some.index _ c.in-Some.ensures.«open».here
+pub doc-requires : goal.doc-requires
+doc-requires c = entry_within c.args.rows.now c.in-Some.index _ c.in-Some.ensures.«open».here
 
-pub save-requires-clause-open : goal.save-requires-clause-open
-save-requires-clause-open c = λ r get.
+pub returns-clause-planned : goal.returns-clause-planned
+returns-clause-planned c = λ agreed.
     let at = c.in-Some.ensures.«open» in
-    ap is_some (subst (λ (x : Row). x.1.text ≡ Some c.in-Some.text.now) (same_row c.args.rows.now c.in-Some.index (c.args.path.now, at.doc) r at.here get) at.with_text)
+    let here = same_doc c.args.rows.now c.in-Some.index c.doc.result.now (c.args.path.now, at.doc) c.doc.ensures.doc at.here in
+    saves_done agreed c.args.path.now c.args.rows.now c.in-Some.index c.in-Some.text.now c.in_ok-bytes.bytes c.in_ok-saved_as.field-0 c.find_open.ensures.rows at
+    (c.in_ok-bytes.ensures ∙ c.as_bytes.ensures.value ∙ c.as_str.ensures.bytes) (c.in_ok-saved_as.ensures ∙ ap (λ d. saved_doc d c.in_ok-bytes.bytes) here)
 
-pub returns-clause-done : goal.returns-clause-done
-returns-clause-done c = λ agreed.
+pub returns-clause-room : goal.returns-clause-room
+returns-clause-room c =
     let at = c.in-Some.ensures.«open» in
-    saves_done agreed c.args.path.now c.args.rows.now c.save.new.self c.in-Some.index c.in-Some.text.now c.in_ok-bytes.bytes c.find_open.ensures.rows at
-    (c.in_ok-bytes.ensures ∙ c.as_bytes.ensures.value ∙ c.as_str.ensures.bytes) (c.save.ensures (c.args.path.now, at.doc) at.here)
+    let here = same_doc c.args.rows.now c.in-Some.index c.doc.result.now (c.args.path.now, at.doc) c.doc.ensures.doc at.here in
+    room_as_present c.args.path.now c.args.rows.now c.in-Some.index c.in-Some.text.now c.in_ok-bytes.bytes c.in_ok-saved_as.field-0 c.find_open.ensures.rows c.find_open.ensures.count
+    c.find_open.ensures.bytes at (c.in_ok-saved_as.ensures ∙ ap (λ d. saved_doc d c.in_ok-bytes.bytes) here)

@@ -4,9 +4,9 @@ use Rattle.lsp_docs.specs.Documents.{Saves, if_open}
 use Rattle.lsp_docs.proofs.ApplyLemmas.{err_is, named_is}
 use Rattle.lsp_docs.proofs.docs.Docs.save.Goals as goal
 
-pub returns-in_err-save-clause-refused : goal.returns-in_err-save-clause-refused
-returns-in_err-save-clause-refused c =
-    let e = c.in_err-save.field-0.0 in
-    err_is c.from_residual-in_err-save.result e _ c.from_residual-in_err-save.ensures.1 (λ other.
+pub returns-in_err-doc-clause-refused : goal.returns-in_err-doc-clause-refused
+returns-in_err-doc-clause-refused c =
+    let e = c.in_err-doc.field-0.0 in
+    err_is c.from_residual-in_err-doc.result e _ c.from_residual-in_err-doc.ensures.1 (λ other.
     named_is c.args.self.now c.args.uri.now c.in_ok-path.path (if_open c.args.self.now (λ f. Ok (Saves f))) c.in_ok-path.ensures.named
-    ∙ subst (λ d. if_open d (λ f. Ok (Saves f)) c.in_ok-path.path ≡ Err e) c.self.view_is (c.in_err-save.ensures.refused other (record { root = c.self.inside.root; encoding = c.self.inside.encoding })))
+    ∙ subst (λ d. if_open d (λ f. Ok (Saves f)) c.in_ok-path.path ≡ Err e) c.self.view_is (c.in_err-doc.ensures.refused other (record { root = c.self.inside.root; encoding = c.self.inside.encoding })))
