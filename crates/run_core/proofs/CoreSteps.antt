@@ -25,6 +25,8 @@ use Rattle.run_watch.specs.declared.end_cause.EndCause.{EndCause}
 use Rattle.run_watch.specs.declared.inp.Inp.TheVariants.{Msg}
 use Rattle.run_watch.specs.declared.step.Step.TheVariants.{Take, Build, Work}
 use Rattle.lsp_docs.specs.declared.applied.Applied.{Applied}
+use Rattle.lsp_docs.specs.declared.plan.Plan.{Plan}
+use Rattle.lsp_docs.specs.Rows.{planned, present_of, reads}
 use Rattle.lsp_docs.specs.declared.doc_end.DocEnd.{DocEnd}
 use Rattle.lsp_docs.specs.Paths.{Path, Bytes, has, with_path, with_paths, without_path}
 use Rattle.lsp_docs.specs.Projects.{Project, with_bytes, without_file, paths_of}
@@ -258,12 +260,9 @@ edited_facts d new f edited order keeps =
     ∙ kept_facts d.project edited.edit.path edited.edit.now order
     ((same_facts-decides _ _).0 (sym (keeps-at d.project edited.edit) ∙ sym (λ i. keeps_at (edited.named i) d.project (edited.done i).project) ∙ keeps))
 
-pub edited_project : (d new : Documents) (f : Path) → IsEdited d new f → new.project ≡ with_bytes f (bytes_at f new.project) d.project
-edited_project d new f edited =
-    let now = ap (λ (x : Documents). x.project) edited.done in
-    now
-    ∙ ap (λ g. with_bytes g edited.edit.now d.project) (sym edited.named)
-    ∙ ap (λ o. with_bytes f o d.project) (sym ((λ i. bytes_at (edited.named i) (now i)) ∙ here edited.edit.path edited.edit.now d.project))
+-- what the project has at the path of a plan after it
+pub planned_here : (plan : Plan) (d : Documents) → bytes_at plan.path (planned plan d).project ≡ reads present_of plan.kept
+planned_here plan d = here plan.path (reads present_of plan.kept) d.project
 
 pub edited_others : (d new : Documents) (f g : Path) (bytes : Bytes) (job : Known) → IsEdited d new f → IsProject d.project → IsJobOf d.project job
     → g ≢ f → bytes_at g new.project ≡ Some bytes → IsJobWith g bytes job

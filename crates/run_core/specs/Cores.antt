@@ -22,6 +22,8 @@ use Rattle.lsp_docs.specs.Paths.{Path, has, is_before}
 use Rattle.lsp_docs.specs.Projects.{Project, Edit, paths_of}
 use Rattle.lsp_docs.specs.Documents.{Documents, after_deed, placed, uri_of}
 use Rattle.lsp_docs.specs.Documents.Deed.{Edits}
+use Rattle.lsp_docs.specs.Rows.{planned}
+use Rattle.lsp_docs.specs.declared.plan.Plan.{Plan}
 use Rattle.lsp_docs.specs.Uris.{is_empty}
 use Rattle.run_core.specs.Language.{Language}
 use Rattle.run_core.specs.Sessions.{Phase, Waiting, Serving, Closing}
@@ -179,6 +181,10 @@ keeps_at f old new = same_facts (facts_in (bytes_at f old)) (facts_in (bytes_at 
 abbrev pub after_edit_at : State → Documents → Path → Bool → State
 after_edit_at s d f kept =
     record (after_taken_edit s kept f) { session = record { phase = s.session.phase; documents = d }; seen = false }
+
+-- the state after an edit that was planned
+abbrev pub after_plan : State → Plan → Bool → State
+after_plan s plan kept = after_edit_at s (planned plan s.session.documents) plan.path kept
 
 -- The second documents are those after an edit of the first, of this path.
 pub record IsEdited (old new : Documents) (path : Path) : Type 0 where

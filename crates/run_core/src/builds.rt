@@ -6,13 +6,13 @@ ghost use Rattle.std.specs.Option.{option_copied, option_map};
 ghost use Rattle.srb_terms.specs.Projects.{File, IsProject, bytes_at};
 ghost use Rattle.lsp_docs.specs.Paths.{Path, Bytes};
 ghost use Rattle.lsp_docs.specs.Documents.{Documents, MOST_FILES};
-ghost use Rattle.lsp_docs.specs.Projects.{with_bytes};
+ghost use Rattle.lsp_docs.specs.Rows.{HasRoom, planned};
 ghost use Rattle.srb_check.specs.FactLists.{same_facts};
 ghost use Rattle.srb_check.specs.Jobs.{AreLoaded, IsJobOf, IsJobWith, facts_in};
 ghost use Rattle.srb_check.specs.Records.{loaded};
 ghost use Rattle.srb_check.specs.Symbols.{project_facts};
 
-use lsp_docs::Docs;
+use lsp_docs::{Docs, Plan};
 use srb_check::{FileRec, Files, Job, declare_the_same};
 use srb_terms::{Boxed, Name, NoMemory};
 use std::alloc::Global;
@@ -81,28 +81,37 @@ pub fn stays(kept: bool, stale: bool) -> bool
     kept && !stale
 }
 
-/// Makes the job of a project that of the project whose present texts the documents have, after an edit of the file at `path` that keeps the
-/// facts. Where that was a file of the project and still is, its record takes the place of the one that the job has, and no other file is
-/// looked at. After an error the job is as it was.
+/// Does an edit that was planned and keeps the facts: of documents, and of the job of their project. Where the path was a file of the project
+/// and still is, its record takes the place of the one that the job has, and no other file is looked at. After an error both are as they
+/// were.
 pub fn edit_job(
     alloc: Global,
     job: &mut Job,
-    docs: &Docs,
-    path: &Name,
+    docs: &mut Docs,
+    plan: Plan,
     file: &Option<Boxed<FileRec>>,
 ) -> Result<(), NoMemory>
-    requires file { file.now ≡ option_map loaded (bytes_at path.now docs.now.project) }
-    requires others { (f : Path) (bytes : Bytes) → f ≢ path.now → bytes_at f docs.now.project ≡ Some bytes → IsJobWith f bytes job.old }
-    ensures edited { (old : List File) → IsProject old → docs.now.project ≡ with_bytes path.now (bytes_at path.now docs.now.project) old → IsJobOf old job.old
-        → project_facts docs.now.project ≡ project_facts old → OnOk result (IsJobOf docs.now.project job.new) }
-    ensures err { OnErr result (job.new ≡ job.old) }
+    requires room { HasRoom plan.path plan.kept docs.old.project }
+    requires file { file.now ≡ option_map loaded (bytes_at plan.path (planned plan docs.old).project) }
+    requires others { (f : Path) (bytes : Bytes) → f ≢ plan.path → bytes_at f (planned plan docs.old).project ≡ Some bytes → IsJobWith f bytes job.old }
+    ensures docs { OnOk result (docs.new ≡ planned plan docs.old) }
+    ensures edited { IsProject docs.old.project → IsJobOf docs.old.project job.old → project_facts (planned plan docs.old).project ≡ project_facts docs.old.project
+        → OnOk result (IsJobOf (planned plan docs.old).project job.new) }
+    ensures err { OnErr result ((job.new ≡ job.old) × (docs.new ≡ docs.old)) }
 {
     if let Some(file) = file {
-        if job.put(path, file.copied()?) {
-            return Ok(());
+        if docs.bytes(&plan.path).is_some() && job.put(&plan.path, file.copied()?) {
+            match docs.enact(plan) {
+                Ok(()) => return Ok(()),
+                Err(_) => unreachable!(),
+            }
         }
     }
-    *job = edited_job(alloc, docs, path, file, job)?;
+    let path = plan.path.copied()?;
+    let mut after = docs.copied(alloc)?;
+    after.enact(plan)?;
+    *job = edited_job(alloc, &after, &path, file, job)?;
+    *docs = after;
     Ok(())
 }
 

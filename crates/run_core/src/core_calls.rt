@@ -5,6 +5,7 @@ ghost use Rattle.std.specs.Option.{option_copied, option_map};
 ghost use Rattle.lsp_docs.specs.Documents.{MOST_FILES, applied};
 ghost use Rattle.srb_text.specs.Limits.{MOST_BYTES};
 ghost use Rattle.lsp_docs.specs.Projects.{total_bytes};
+ghost use Rattle.lsp_docs.specs.Rows.{HasRoom, planned};
 ghost use Rattle.lsp_docs.specs.Uris.{is_empty};
 ghost use Rattle.run_watch.specs.declared.inp.Inp.TheVariants as inp;
 ghost use Rattle.run_watch.specs.declared.step.Step.TheVariants.{Take, Look, Build, Idle};
@@ -12,7 +13,7 @@ ghost use Rattle.srb_check.specs.Found.{IsFoundIn};
 ghost use Rattle.srb_check.specs.Jobs.{IsJobOf};
 ghost use Rattle.srb_check.specs.Records.{loaded};
 ghost use Rattle.srb_terms.specs.Projects.{bytes_at};
-ghost use Rattle.run_core.specs.Cores.{Lands, LandsBy, Makes, IsEdited, IsNextOwn, after_edit_at, checks_after, end_taken, ended_by, has_own, is_idle, keeps_at};
+ghost use Rattle.run_core.specs.Cores.{Lands, LandsBy, Makes, IsEdited, IsNextOwn, after_plan, checks_after, end_taken, ended_by, has_own, is_idle, keeps_at};
 ghost use Rattle.run_core.specs.Machine.{is_at_rest, looked, opening, project_of};
 ghost use Rattle.run_core.specs.Sessions.{Waiting, Serving};
 
@@ -23,7 +24,7 @@ use crate::fate::Fate;
 use crate::landed::Landed;
 use crate::phase::Phase;
 use crate::rows::{Rows, next_row};
-use lsp_docs::Docs;
+use lsp_docs::{Docs, Plan};
 use lsp_msg::{Id, Msg, Out, chosen_encoding};
 use run_queues::Item;
 use run_watch::{EndCause, Inp, Step};
@@ -204,14 +205,13 @@ impl Core {
         if self.epoch == u64::MAX {
             return Err(AllocError);
         }
-        let mut docs = self.docs.copied(alloc)?;
-        match docs.apply(alloc, msg) {
-            Ok(applied) => {
-                if applied.edit {
-                    self.take_edit(alloc, docs, &applied.path)?;
+        match self.docs.plan(alloc, msg) {
+            Ok(plan) => {
+                if plan.edit {
+                    self.take_edit(alloc, plan)?;
                     return Ok(None);
                 }
-                self.docs = docs;
+                self.docs.enact(plan)?;
                 self.seen = false;
                 Ok(None)
             }
@@ -226,49 +226,45 @@ impl Core {
         }
     }
 
-    // Takes an edit of the file at `path`, which left these documents.
-    fn take_edit(&mut self, alloc: Global, docs: Docs, path: &Name) -> Result<(), NoMemory>
+    // Takes an edit that was planned: its file is loaded before anything changes.
+    fn take_edit(&mut self, alloc: Global, plan: Plan) -> Result<(), NoMemory>
         requires phase { self.old.state.session.phase ≡ Serving }
         requires epoch { self.old.state.epoch < 2 ^ 64 - 1 }
-        requires edited { IsEdited self.old.state.session.documents docs path.now }
-        ensures state { OnOk result (self.new.state ≡ after_edit_at self.old.state docs path.now (keeps_at path.now (project_of self.old.state) docs.project)) }
+        requires edited { IsEdited self.old.state.session.documents (planned plan self.old.state.session.documents) plan.path }
+        requires room { HasRoom plan.path plan.kept self.old.state.session.documents.project }
+        ensures state { OnOk result (self.new.state ≡ after_plan self.old.state plan (keeps_at plan.path (project_of self.old.state) (planned plan self.old.state.session.documents).project)) }
         ensures ended { self.new.state.ended ≡ self.old.state.ended }
         ensures checks { self.new.own_checks ≡ self.old.own_checks }
         ensures job { self.new.job ≡ self.old.job }
         ensures err { OnErr result (self.new ≡ self.old) }
     {
-        let file = self.job.load_at(alloc, path, docs.bytes(path))?;
-        let kept = is_kept(alloc, &self.docs, path, &file, &self.job)?;
+        let file = self.job.load_at(alloc, &plan.path, plan.bytes())?;
+        let kept = is_kept(alloc, &self.docs, &plan.path, &file, &self.job)?;
         if stays(kept, self.stale) {
-            self.take_kept(alloc, docs, path, &file)
+            self.take_kept(alloc, plan, &file)
         } else {
-            self.take_changed(docs, path, file.is_some(), kept)
+            self.take_changed(plan, file.is_some(), kept)
         }
     }
 
     // Takes an edit where the symbol table is stale after it. Where the edit keeps it, it was stale before.
-    fn take_changed(
-        &mut self,
-        docs: Docs,
-        path: &Name,
-        present: bool,
-        kept: bool,
-    ) -> Result<(), NoMemory>
+    fn take_changed(&mut self, plan: Plan, present: bool, kept: bool) -> Result<(), NoMemory>
         requires phase { self.old.state.session.phase ≡ Serving }
         requires epoch { self.old.state.epoch < 2 ^ 64 - 1 }
-        requires edited { IsEdited self.old.state.session.documents docs path.now }
-        requires present { present ≡ is_some (bytes_at path.now docs.project) }
+        requires edited { IsEdited self.old.state.session.documents (planned plan self.old.state.session.documents) plan.path }
+        requires room { HasRoom plan.path plan.kept self.old.state.session.documents.project }
+        requires present { present ≡ is_some (bytes_at plan.path (planned plan self.old.state.session.documents).project) }
         requires stale { IsTrue (not kept || self.old.state.stale) }
-        ensures state { OnOk result (self.new.state ≡ after_edit_at self.old.state docs path.now kept) }
+        ensures state { OnOk result (self.new.state ≡ after_plan self.old.state plan kept) }
         ensures ended { self.new.state.ended ≡ self.old.state.ended }
         ensures checks { self.new.own_checks ≡ self.old.own_checks }
         ensures job { self.new.job ≡ self.old.job }
         ensures err { OnErr result (self.new ≡ self.old) }
     {
-        let path = path.copied()?;
+        let path = plan.path.copied()?;
         self.rows.reserve()?;
+        self.docs.enact(plan)?;
         self.rows.edit(path, present, kept);
-        self.docs = docs;
         self.epoch += 1;
         self.stale = true;
         self.seen = false;
@@ -279,27 +275,26 @@ impl Core {
     fn take_kept(
         &mut self,
         alloc: Global,
-        docs: Docs,
-        path: &Name,
+        plan: Plan,
         file: &Option<Boxed<FileRec>>,
     ) -> Result<(), NoMemory>
         requires phase { self.old.state.session.phase ≡ Serving }
         requires epoch { self.old.state.epoch < 2 ^ 64 - 1 }
-        requires edited { IsEdited self.old.state.session.documents docs path.now }
-        requires file { file.now ≡ option_map loaded (bytes_at path.now docs.project) }
-        requires kept { IsTrue (keeps_at path.now (project_of self.old.state) docs.project) }
+        requires edited { IsEdited self.old.state.session.documents (planned plan self.old.state.session.documents) plan.path }
+        requires room { HasRoom plan.path plan.kept self.old.state.session.documents.project }
+        requires file { file.now ≡ option_map loaded (bytes_at plan.path (planned plan self.old.state.session.documents).project) }
+        requires kept { IsTrue (keeps_at plan.path (project_of self.old.state) (planned plan self.old.state.session.documents).project) }
         requires built { IsFalse self.old.state.stale }
-        ensures state { OnOk result (self.new.state ≡ after_edit_at self.old.state docs path.now true) }
+        ensures state { OnOk result (self.new.state ≡ after_plan self.old.state plan true) }
         ensures ended { self.new.state.ended ≡ self.old.state.ended }
         ensures checks { self.new.own_checks ≡ self.old.own_checks }
         ensures job { self.new.job ≡ self.old.job }
         ensures err { OnErr result (self.new ≡ self.old) }
     {
-        let name = path.copied()?;
+        let path = plan.path.copied()?;
         self.rows.reserve()?;
-        edit_job(alloc, &mut self.job, &docs, path, file)?;
-        self.rows.edit(name, file.is_some(), true);
-        self.docs = docs;
+        edit_job(alloc, &mut self.job, &mut self.docs, plan, file)?;
+        self.rows.edit(path, file.is_some(), true);
         self.epoch += 1;
         self.seen = false;
         Ok(())
