@@ -30,14 +30,17 @@ module _ {X : Type 0} (L : Language Ty X) where
   type_caught c row spelled ty s h = h ∙ ap (λ r. caught_in L c.scope r) (s ∙ spellings_are row)
 
   -- a clause by what its patterns gave
-  pub caught_is : (r : Rescue (Part Ty X)) (c inner : Context Ty) (so_far : Rescuing Ty) (e : Environment Ty) (done : Rescuing Ty) (several : Several Ty) →
+  pub caught_is : (r : Rescue (Part Ty X)) (c inner : Context Ty) (so_far left : Rescuing Ty) (e : Environment Ty) (done : Rescuing Ty) (several : Several Ty) →
       inner ≡ seeing so_far.visible c →
-      several ≡ judge_all (map part_operand r.patterns) inner (moved so_far.patterns so_far.state) →
-      done ≡ caught_after L r c (record so_far { patterns = e; state = several.state }) several.state →
+      e ≡ so_far.patterns → left.ty ≡ so_far.ty → left.ends ≡ so_far.ends → left.visible ≡ so_far.visible →
+      several ≡ judge_all (map part_operand r.patterns) inner (moved e so_far.state) →
+      done ≡ caught_after L r c (record left { state = several.state }) several.state →
       done ≡ caught_by L r c so_far
-  caught_is r c inner so_far e done several i m h =
-      h ∙ ap (λ (x : Several Ty). caught_after L r c so_far x.state)
-      (m ∙ ap (λ around. judge_all (map part_operand r.patterns) around (moved so_far.patterns so_far.state)) i)
+  caught_is r c inner so_far left e done several n p t b v m h =
+      h
+      ∙ (λ i. caught_after L r c (record left { ty = t i; ends = b i; visible = v i; state = several.state }) several.state)
+      ∙ ap (λ (x : Several Ty). caught_after L r c so_far x.state)
+      (m ∙ (λ i. judge_all (map part_operand r.patterns) (n i) (moved (p i) so_far.state)))
 
   -- what is caught after the patterns
   pub after_is : (r : Rescue (Part Ty X)) (c : Context Ty) (so_far : Rescuing Ty) (s t : State Ty) (found : List (List ℕ)) (e : Environment Ty) →

@@ -10,7 +10,6 @@ use Rattle.rb_tree.specs.declared.syntax.Piece.TheVariants as piece
 use Rattle.rb_tree.specs.declared.syntax.Tree.{Tree}
 use Rattle.srb_judgement.specs.Branches.{Branching}
 use Rattle.srb_judgement.specs.Cases.{Fitting}
-use Rattle.srb_judgement.specs.Ends.{Ends}
 use Rattle.srb_judgement.specs.Environments.{Silent}
 use Rattle.srb_judgement.specs.Guards.{Rescuing, caught, caught_names, caught_type}
 use Rattle.srb_judgement.specs.Judgements.{part_of}
@@ -63,36 +62,37 @@ abbrev pub seen_subject : subject.Subject → Option (Option (List ℕ))
 seen_subject subjects.Conditions = None
 seen_subject (subjects.Value variable) = Some variable
 
--- branches that ended so, of which nothing else is known
-abbrev pub ended : Ends Ty → State Ty → Branching Ty
-ended e s = record { ty = e.ty; ends = e.environment; rest = Silent; visible = []; state = s }
-
 -- without the environment of the state, which is taken out
-abbrev pub settled_fitting : Fitting Ty → Fitting Ty
-settled_fitting f = record f { state = moved Silent f.state }
-
-abbrev pub settled_branching : Branching Ty → Branching Ty
-settled_branching b = record b { state = moved Silent b.state }
-
 abbrev pub settled_rescuing : Rescuing Ty → Rescuing Ty
 settled_rescuing r = record r { state = moved Silent r.state }
 
+-- what branches and patterns pass on: all but the environment of the state, and in place of the visible variables what is around
+pub record Placed : Type 0 where
+  pub branching : Branching Ty
+  pub around : Context Ty
+
+pub record PlacedFitting : Type 0 where
+  pub fitting : Fitting Ty
+  pub around : Context Ty
+
+abbrev pub placed : Context Ty → Branching Ty → Placed
+placed c b = record { branching = record b { visible = []; state = moved Silent b.state }; around = seeing b.visible c }
+
+abbrev pub placed_fitting : Context Ty → Fitting Ty → PlacedFitting
+placed_fitting c f = record { fitting = record f { visible = []; state = moved Silent f.state }; around = seeing f.visible c }
+
+-- no variable is visible but what is around
 abbrev pub seen_branching : branching.Branching → State Ty → Branching Ty
 seen_branching b s = record {
   ty = b.ends.ty;
   ends = seen_environment b.ends.environment;
   rest = seen_environment b.rest;
-  visible = b.visible;
+  visible = [];
   state = s;
 }
 
 abbrev pub seen_fitting : fitting.Fitting → State Ty → Fitting Ty
-seen_fitting f s = record {
-  fits = seen_environment f.fits;
-  rest = seen_environment f.rest;
-  visible = f.visible;
-  state = s;
-}
+seen_fitting f s = record { fits = seen_environment f.fits; rest = seen_environment f.rest; visible = []; state = s }
 
 abbrev pub seen_rescuing : rescuing.Rescuing → State Ty → Rescuing Ty
 seen_rescuing r s = record {

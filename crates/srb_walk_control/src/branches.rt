@@ -1,39 +1,39 @@
 //! Branches: `if`, `unless`, `elsif`, `? :`, and `if` and `unless` as modifiers.
+//!
+//! What is around grows with the branches: each sees what the conditions and bodies before it assign.
 
-ghost use Rattle.std.specs.Prelude.{◌≡◌, ◌∷◌, ◌++◌, [], false, Some, None, IfOk, OnOk};
-ghost use Rattle.srb_terms.specs.declared.ty.Ty.{Ty};
+ghost use Rattle.std.specs.Prelude.{◌≡◌, ◌∷◌, [], false, None, Some, IfOk, OnOk};
 ghost use Rattle.srb_judgement.specs.Branches as branches;
 ghost use Rattle.rb_tree.specs.declared.syntax.Test.TheVariants as sense;
 ghost use Rattle.srb_judgement.specs.Ends as ends_spec;
 ghost use Rattle.srb_judgement.specs.Environments.{Silent};
 ghost use Rattle.srb_judgement.specs.Kept.{seen_context};
-ghost use Rattle.srb_judgement.specs.Sequences as sequences;
 ghost use Rattle.srb_judgement.specs.States.{judged, moved, seeing};
 ghost use Rattle.srb_judgement.specs.Views.{seen_ends, seen_environment, seen_state, seen_tested, settled};
 ghost use Rattle.srb_walk.specs.Assigned.{names_of};
+ghost use Rattle.srb_walk.specs.Beside.{seen_beside};
 ghost use Rattle.srb_walk.specs.Judging as spec;
 ghost use Rattle.srb_walk_control.specs.Passed as passed;
 ghost use Rattle.srb_walk.specs.Known as known;
 
+use crate::ends::{add_end, whole};
 use rb_tree::syntax::{Arm, Test, Tree};
 use srb_judgement::contexts::Context;
-use srb_judgement::ends::{Ends, all_ends, empty_type, no_ends, with_end};
+use srb_judgement::ends::{Ends, empty_type, no_ends};
 use srb_judgement::environments::Environment;
 use srb_judgement::language::Language;
 use srb_judgement::states::State;
 use srb_judgement::tested::Tested;
-use srb_terms::{Items, Name, NoMemory, Ty};
-use srb_walk::around::{after, with_names};
-use srb_walk::assigned::assigned;
+use srb_terms::{NoMemory, Ty};
+use srb_walk::around::{Beside, after};
 use srb_walk::walking::Walk;
 use std::alloc::Global;
 
-/// The branches so far: their ends, the environment in which none of them is taken, and the variables that became visible.
+/// The branches so far: their ends, and the environment in which none of them is taken.
 #[derive(Drop)]
 pub struct Branching {
     pub ends: Ends,
     pub rest: Environment,
-    pub visible: Items<Name>,
 }
 
 /// Judges the condition of `if`, `unless`, `while` or `until`. `unless` and `until` exchange its sides.
@@ -65,100 +65,114 @@ pub fn test_condition<W: Walk, L: Language>(
     }
 }
 
-/// Judges what is done in a branch that begins in this environment, with the variables that became visible.
-pub fn branch<W: Walk, L: Language>(
-    alloc: Global,
-    walk: &W,
-    language: &L,
-    context: &Context,
-    state: &mut State,
-    visible: &[Name],
-    ends: Ends,
-    entry: Environment,
-    body: &Tree,
-) -> Result<Ends, NoMemory>
-    ensures ends { IfOk result (λ e. seen_ends e ≡ ends_spec.with_end (L.the language.now) (seen_ends ends) (spec.judge_of (L.the language.now) body.now (seeing visible.now (seen_context context.now)) (moved (seen_environment entry) (seen_state state.old)))) }
-    ensures state { OnOk result (seen_state state.new ≡ moved Silent (spec.judge_of (L.the language.now) body.now (seeing visible.now (seen_context context.now)) (moved (seen_environment entry) (seen_state state.old))).state) }
+/// Takes out the environment in which no branch is taken.
+pub fn take_rest(so_far: &mut Branching) -> Environment
+    ensures taken { seen_environment result ≡ seen_environment so_far.old.rest }
+    ensures ends { seen_ends so_far.new.ends ≡ seen_ends so_far.old.ends }
 {
-    let inner = with_names(alloc, context, visible)?;
-    state.environment = entry;
-    let ty = walk.judge(alloc, language, inner.of(context), state, body)?;
-    with_end(alloc, language, ends, ty, state)
+    std::mem::replace(&mut so_far.rest, Environment::Silent)
 }
 
-/// Judges a condition that begins in this environment, with the variables that became visible.
-fn arm_test<W: Walk, L: Language>(
+/// Judges a condition, and goes where it holds. Where it doesn't, no branch is taken so far.
+#[inline(never)]
+fn judge_condition<W: Walk, L: Language>(
     alloc: Global,
     walk: &W,
     language: &L,
     context: &Context,
     state: &mut State,
-    visible: &[Name],
-    entry: Environment,
-    condition: &Tree,
-) -> Result<Tested, NoMemory>
-    ensures { IfOk result (λ t. settled (seen_tested t (seen_state state.new)) ≡ settled (spec.test_of (L.the language.now) condition.now (seeing visible.now (seen_context context.now)) (moved (seen_environment entry) (seen_state state.old)))) }
+    so_far: &mut Branching,
+    which: Test,
+    tree: &Tree,
+) -> Result<(), NoMemory>
+    ensures rest { OnOk result (seen_environment so_far.new.rest ≡ (branches.turned which (spec.test_of (L.the language.now) tree.now (seen_context context.now) (seen_state state.old))).falsehood) }
+    ensures state { OnOk result (seen_state state.new ≡ moved (branches.turned which (spec.test_of (L.the language.now) tree.now (seen_context context.now) (seen_state state.old))).truth (branches.turned which (spec.test_of (L.the language.now) tree.now (seen_context context.now) (seen_state state.old))).state) }
+    ensures ends { OnOk result (seen_ends so_far.new.ends ≡ seen_ends so_far.old.ends) }
 {
-    let inner = with_names(alloc, context, visible)?;
-    state.environment = entry;
-    walk.test(alloc, language, inner.of(context), state, condition)
+    let Tested {
+        ty: _,
+        truth,
+        falsehood,
+    } = test_condition(alloc, walk, language, context, state, which, tree)?;
+    so_far.rest = falsehood;
+    state.environment = truth;
+    Ok(())
 }
 
-/// Judges what is done where a condition holds that is judged, after these branches, with the variables that are visible after it.
-fn after_condition<W: Walk, L: Language>(
+/// Judges what is done in a branch, and adds its end.
+fn branch<W: Walk, L: Language>(
     alloc: Global,
     walk: &W,
     language: &L,
     context: &Context,
     state: &mut State,
-    ends: Ends,
-    visible: Items<Name>,
-    tested: Tested,
+    ends: &mut Ends,
     body: &Tree,
-) -> Result<Branching, NoMemory>
-    ensures { IfOk result (λ b. passed.settled_branching (passed.seen_branching b (seen_state state.new)) ≡ passed.settled_branching (branches.after_condition (L.the language.now) (known.part_in (L.the language.now) body.now) visible (seen_context context.now)
-        (passed.ended (seen_ends ends) (seen_state state.old)) (seen_tested tested (seen_state state.old)))) }
+) -> Result<(), NoMemory>
+    ensures ends { OnOk result (seen_ends ends.new ≡ ends_spec.with_end (L.the language.now) (seen_ends ends.old) (spec.judge_of (L.the language.now) body.now (seen_context context.now) (seen_state state.old))) }
+    ensures state { OnOk result (seen_state state.new ≡ moved Silent (spec.judge_of (L.the language.now) body.now (seen_context context.now) (seen_state state.old)).state) }
 {
-    let mut visible = visible;
-    let ends = branch(
+    let ty = walk.judge(alloc, language, context, state, body)?;
+    add_end(alloc, language, ends, ty, state)
+}
+
+/// Judges what is done in a branch with others after it, adds its end, and makes what it assigns visible.
+pub fn taken<W: Walk, L: Language>(
+    alloc: Global,
+    walk: &W,
+    language: &L,
+    context: &Context,
+    beside: &mut Beside,
+    state: &mut State,
+    so_far: &mut Branching,
+    body: &Tree,
+) -> Result<(), NoMemory>
+    ensures { OnOk result (passed.placed (seen_beside beside.new (seen_context context.now)) (passed.seen_branching so_far.new (seen_state state.new)) ≡ passed.placed (seen_beside beside.old (seen_context context.now))
+        (branches.with_branch (L.the language.now) (passed.seen_branching so_far.old (seen_state state.old)) (seen_environment so_far.old.rest) (names_of (L.the language.now) false body.now) (spec.judge_of (L.the language.now) body.now (seen_beside beside.old (seen_context context.now)) (seen_state state.old)))) }
+{
+    branch(
         alloc,
         walk,
         language,
-        context,
+        beside.of(context),
         state,
-        visible.as_slice(),
-        ends,
-        tested.truth,
+        &mut so_far.ends,
         body,
     )?;
-    assigned(alloc, language, false, body, &mut visible)?;
-    Ok(Branching {
-        ends,
-        rest: tested.falsehood,
-        visible,
-    })
+    beside.see(alloc, language, context, body)?;
+    Ok(())
 }
 
-/// Judges what is done in an `elsif` arm whose condition is judged.
-fn arm_body<W: Walk, L: Language>(
+/// Judges a condition of a row of branches, and the branch where it holds.
+fn one_branch<W: Walk, L: Language>(
     alloc: Global,
     walk: &W,
     language: &L,
     context: &Context,
+    beside: &mut Beside,
     state: &mut State,
-    ends: Ends,
-    visible: Items<Name>,
-    tested: Tested,
-    arm: &Arm<Tree>,
-) -> Result<Branching, NoMemory>
-    ensures { IfOk result (λ b. passed.settled_branching (passed.seen_branching b (seen_state state.new)) ≡ passed.settled_branching (branches.after_condition (L.the language.now) (known.part_in (L.the language.now) arm.now.body) (visible ++ names_of (L.the language.now) false arm.now.condition) (seen_context context.now)
-        (passed.ended (seen_ends ends) (seen_state state.old)) (seen_tested tested (seen_state state.old)))) }
+    so_far: &mut Branching,
+    which: Test,
+    condition: &Tree,
+    body: &Tree,
+) -> Result<(), NoMemory>
+    ensures { OnOk result (passed.placed (seen_beside beside.new (seen_context context.now)) (passed.seen_branching so_far.new (seen_state state.new)) ≡ passed.placed (seen_beside beside.old (seen_context context.now))
+        (branches.after_condition (L.the language.now) (known.part_in (L.the language.now) body.now) (names_of (L.the language.now) false condition.now) (seen_beside beside.old (seen_context context.now)) (passed.seen_branching so_far.old (seen_state state.old))
+        (branches.turned which (spec.test_of (L.the language.now) condition.now (seen_beside beside.old (seen_context context.now)) (seen_state state.old))))) }
 {
-    let mut visible = visible;
-    assigned(alloc, language, false, &arm.condition, &mut visible)?;
-    after_condition(
-        alloc, walk, language, context, state, ends, visible, tested, &arm.body,
-    )
+    judge_condition(
+        alloc,
+        walk,
+        language,
+        beside.of(context),
+        state,
+        so_far,
+        which,
+        condition,
+    )?;
+    beside.see(alloc, language, context, condition)?;
+    taken(alloc, walk, language, context, beside, state, so_far, body)?;
+    Ok(())
 }
 
 /// Judges an `elsif` arm.
@@ -167,30 +181,28 @@ pub fn arm<W: Walk, L: Language>(
     walk: &W,
     language: &L,
     context: &Context,
+    beside: &mut Beside,
     state: &mut State,
-    so_far: Branching,
+    so_far: &mut Branching,
     arm: &Arm<Tree>,
-) -> Result<Branching, NoMemory>
-    ensures { IfOk result (λ b. passed.settled_branching (passed.seen_branching b (seen_state state.new)) ≡ passed.settled_branching (branches.with_arms (L.the language.now) (known.known_arm (L.the language.now) arm.now ∷ []) (seen_context context.now) (passed.seen_branching so_far (seen_state state.old)))) }
+) -> Result<(), NoMemory>
+    ensures { OnOk result (passed.placed (seen_beside beside.new (seen_context context.now)) (passed.seen_branching so_far.new (seen_state state.new)) ≡ passed.placed (seen_beside beside.old (seen_context context.now))
+        (branches.with_arms (L.the language.now) (known.known_arm (L.the language.now) arm.now ∷ []) (seen_beside beside.old (seen_context context.now)) (passed.seen_branching so_far.old (seen_state state.old)))) }
 {
-    let Branching {
-        ends,
-        rest,
-        visible,
-    } = so_far;
-    let tested = arm_test(
+    state.environment = take_rest(so_far);
+    one_branch(
         alloc,
         walk,
         language,
         context,
+        beside,
         state,
-        visible.as_slice(),
-        rest,
+        so_far,
+        Test::Positive,
         &arm.condition,
+        &arm.body,
     )?;
-    arm_body(
-        alloc, walk, language, context, state, ends, visible, tested, arm,
-    )
+    Ok(())
 }
 
 /// Judges `elsif` arms.
@@ -199,17 +211,18 @@ pub fn arms<W: Walk, L: Language>(
     walk: &W,
     language: &L,
     context: &Context,
+    beside: &mut Beside,
     state: &mut State,
-    so_far: Branching,
+    so_far: &mut Branching,
     row: &[Arm<Tree>],
-) -> Result<Branching, NoMemory>
-    ensures { IfOk result (λ b. passed.settled_branching (passed.seen_branching b (seen_state state.new)) ≡ passed.settled_branching (branches.with_arms (L.the language.now) (known.known_arms (L.the language.now) row.now) (seen_context context.now) (passed.seen_branching so_far (seen_state state.old)))) }
+) -> Result<(), NoMemory>
+    ensures { OnOk result (passed.placed (seen_beside beside.new (seen_context context.now)) (passed.seen_branching so_far.new (seen_state state.new)) ≡ passed.placed (seen_beside beside.old (seen_context context.now))
+        (branches.with_arms (L.the language.now) (known.known_arms (L.the language.now) row.now) (seen_beside beside.old (seen_context context.now)) (passed.seen_branching so_far.old (seen_state state.old)))) }
 {
-    let mut branching = so_far;
     'row: for each in row {
-        branching = arm(alloc, walk, language, context, state, branching, each)?;
+        arm(alloc, walk, language, context, beside, state, so_far, each)?;
     }
-    Ok(branching)
+    Ok(())
 }
 
 /// The type of all branches, after the last one that is none.
@@ -217,21 +230,17 @@ pub fn arms<W: Walk, L: Language>(
 pub fn without_otherwise<L: Language>(
     alloc: Global,
     language: &L,
-    so_far: Branching,
+    so_far: &mut Branching,
+    context: &Context,
     state: &mut State,
 ) -> Result<Ty, NoMemory>
-    ensures { IfOk result (λ ty. judged ty (seen_state state.new) ≡ branches.all_branches (L.the language.now) (branches.with_branch (L.the language.now) (passed.seen_branching so_far (seen_state state.old)) (seen_environment so_far.rest) so_far.visible
-        (judged (sequences.empty_type (L.the language.now) (seen_environment so_far.rest)) (moved (seen_environment so_far.rest) (seen_state state.old))))) }
+    ensures { IfOk result (λ ty. judged ty (seen_state state.new) ≡ branches.all_branches (L.the language.now) (branches.with_otherwise (L.the language.now) None (seen_context context.now) (passed.seen_branching so_far.old (seen_state state.old)))) }
 {
-    let Branching {
-        ends,
-        rest,
-        visible: _,
-    } = so_far;
+    let rest = take_rest(so_far);
     let ty = empty_type(language, &rest)?;
     state.environment = rest;
-    let ends = with_end(alloc, language, ends, ty, state)?;
-    Ok(all_ends(language, ends, state))
+    add_end(alloc, language, &mut so_far.ends, ty, state)?;
+    Ok(whole(language, &mut so_far.ends, state))
 }
 
 /// Judges the last branch, and answers the type of all.
@@ -241,28 +250,22 @@ pub fn last_branch<W: Walk, L: Language>(
     language: &L,
     context: &Context,
     state: &mut State,
-    so_far: Branching,
+    so_far: &mut Branching,
     body: &Tree,
 ) -> Result<Ty, NoMemory>
-    ensures { IfOk result (λ ty. judged ty (seen_state state.new) ≡ branches.all_branches (L.the language.now) (branches.with_otherwise (L.the language.now) (Some (known.part_in (L.the language.now) body.now)) (seen_context context.now) (passed.seen_branching so_far (seen_state state.old)))) }
+    ensures { IfOk result (λ ty. judged ty (seen_state state.new) ≡ branches.all_branches (L.the language.now) (branches.with_otherwise (L.the language.now) (Some (known.part_in (L.the language.now) body.now)) (seen_context context.now) (passed.seen_branching so_far.old (seen_state state.old)))) }
 {
-    let Branching {
-        ends,
-        rest,
-        visible,
-    } = so_far;
-    let ends = branch(
+    state.environment = take_rest(so_far);
+    branch(
         alloc,
         walk,
         language,
         context,
         state,
-        visible.as_slice(),
-        ends,
-        rest,
+        &mut so_far.ends,
         body,
     )?;
-    Ok(all_ends(language, ends, state))
+    Ok(whole(language, &mut so_far.ends, state))
 }
 
 /// Judges an `else`, perhaps a missing one, and answers the type of all branches.
@@ -272,41 +275,54 @@ pub fn otherwise<W: Walk, L: Language>(
     language: &L,
     context: &Context,
     state: &mut State,
-    so_far: Branching,
+    so_far: &mut Branching,
     otherwise: &Option<Tree>,
 ) -> Result<Ty, NoMemory>
-    ensures { IfOk result (λ ty. judged ty (seen_state state.new) ≡ branches.all_branches (L.the language.now) (branches.with_otherwise (L.the language.now) (known.known_option (L.the language.now) otherwise.now) (seen_context context.now) (passed.seen_branching so_far (seen_state state.old)))) }
+    ensures { IfOk result (λ ty. judged ty (seen_state state.new) ≡ branches.all_branches (L.the language.now) (branches.with_otherwise (L.the language.now) (known.known_option (L.the language.now) otherwise.now) (seen_context context.now) (passed.seen_branching so_far.old (seen_state state.old)))) }
 {
     match otherwise {
-        None => without_otherwise(alloc, language, so_far, state),
+        None => without_otherwise(alloc, language, so_far, context, state),
         Some(body) => last_branch(alloc, walk, language, context, state, so_far, body),
     }
 }
 
-/// Judges what is done where a condition holds that is judged, with the variables that are visible after it.
-pub fn first_branch<W: Walk, L: Language>(
+/// No branch yet, before the first condition.
+fn no_branches<L: Language>(language: &L) -> Branching
+    ensures { seen_ends result.ends ≡ ends_spec.no_ends (L.the language.now) }
+{
+    Branching {
+        ends: no_ends(language),
+        rest: Environment::Silent,
+    }
+}
+
+/// Judges a condition before which this statement is visible.
+#[inline(never)]
+fn condition_after<W: Walk, L: Language>(
     alloc: Global,
     walk: &W,
     language: &L,
     context: &Context,
     state: &mut State,
-    visible: Items<Name>,
-    tested: Tested,
-    body: &Tree,
-) -> Result<Branching, NoMemory>
-    ensures { IfOk result (λ b. passed.settled_branching (passed.seen_branching b (seen_state state.new)) ≡ passed.settled_branching (branches.after_condition (L.the language.now) (known.part_in (L.the language.now) body.now) visible (seen_context context.now)
-        (branches.branching (L.the language.now) (seen_environment tested.falsehood) (seen_state state.old)) (seen_tested tested (seen_state state.old)))) }
+    so_far: &mut Branching,
+    which: Test,
+    statement: &Tree,
+    tree: &Tree,
+) -> Result<(), NoMemory>
+    ensures rest { OnOk result (seen_environment so_far.new.rest ≡ (branches.turned which (spec.test_of (L.the language.now) tree.now (seeing (names_of (L.the language.now) false statement.now) (seen_context context.now)) (seen_state state.old))).falsehood) }
+    ensures state { OnOk result (seen_state state.new ≡ moved (branches.turned which (spec.test_of (L.the language.now) tree.now (seeing (names_of (L.the language.now) false statement.now) (seen_context context.now)) (seen_state state.old))).truth (branches.turned which (spec.test_of (L.the language.now) tree.now (seeing (names_of (L.the language.now) false statement.now) (seen_context context.now)) (seen_state state.old))).state) }
+    ensures ends { OnOk result (seen_ends so_far.new.ends ≡ seen_ends so_far.old.ends) }
 {
-    after_condition(
+    let beside = after(alloc, language, context, statement)?;
+    judge_condition(
         alloc,
         walk,
         language,
-        context,
+        beside.of(context),
         state,
-        no_ends(language),
-        visible,
-        tested,
-        body,
+        so_far,
+        which,
+        tree,
     )
 }
 
@@ -323,37 +339,28 @@ pub fn modified_if<W: Walk, L: Language>(
 ) -> Result<Ty, NoMemory>
     ensures { IfOk result (λ ty. judged ty (seen_state state.new) ≡ branches.modified_if (L.the language.now) which (known.part_in (L.the language.now) statement.now) (known.part_in (L.the language.now) condition.now) (seen_context context.now) (seen_state state.old)) }
 {
-    let beside = after(alloc, language, context, statement)?;
-    let tested = test_condition(
+    let mut so_far = no_branches(language);
+    condition_after(
         alloc,
         walk,
         language,
-        beside.of(context),
+        context,
         state,
+        &mut so_far,
         which,
+        statement,
         condition,
     )?;
-    let visible = Items::new(alloc);
-    let so_far = first_branch(
-        alloc, walk, language, context, state, visible, tested, statement,
+    branch(
+        alloc,
+        walk,
+        language,
+        context,
+        state,
+        &mut so_far.ends,
+        statement,
     )?;
-    without_otherwise(alloc, language, so_far, state)
-}
-
-/// No branch yet, of a `case` that begins in the state's environment.
-#[inline(never)]
-pub fn no_branches<L: Language>(
-    alloc: Global,
-    language: &L,
-    state: &State,
-) -> Result<Branching, NoMemory>
-    ensures { IfOk result (λ b. passed.seen_branching b (seen_state state.now) ≡ branches.branching (L.the language.now) (seen_state state.now).environment (seen_state state.now)) }
-{
-    Ok(Branching {
-        ends: no_ends(language),
-        rest: state.environment.copied(alloc)?,
-        visible: Items::new(alloc),
-    })
+    without_otherwise(alloc, language, &mut so_far, context, state)
 }
 
 /// Judges `if` or `unless`, with `elsif` arms and perhaps `else`.
@@ -371,12 +378,39 @@ pub fn branches<W: Walk, L: Language>(
 ) -> Result<Ty, NoMemory>
     ensures { IfOk result (λ ty. judged ty (seen_state state.new) ≡ branches.if_judged (L.the language.now) which (known.part_in (L.the language.now) condition.now) (known.part_in (L.the language.now) body.now) (known.known_arms (L.the language.now) row.now) (known.known_option (L.the language.now) last.now) (seen_context context.now) (seen_state state.old)) }
 {
-    let tested = test_condition(alloc, walk, language, context, state, which, condition)?;
-    let mut visible = Items::new(alloc);
-    assigned(alloc, language, false, condition, &mut visible)?;
-    let first = first_branch(alloc, walk, language, context, state, visible, tested, body)?;
-    let all = arms(alloc, walk, language, context, state, first, row)?;
-    otherwise(alloc, walk, language, context, state, all, last)
+    let mut beside = Beside::new();
+    let mut so_far = no_branches(language);
+    one_branch(
+        alloc,
+        walk,
+        language,
+        context,
+        &mut beside,
+        state,
+        &mut so_far,
+        which,
+        condition,
+        body,
+    )?;
+    arms(
+        alloc,
+        walk,
+        language,
+        context,
+        &mut beside,
+        state,
+        &mut so_far,
+        row,
+    )?;
+    otherwise(
+        alloc,
+        walk,
+        language,
+        beside.of(context),
+        state,
+        &mut so_far,
+        last,
+    )
 }
 
 /// Judges `? :`.
@@ -392,11 +426,27 @@ pub fn conditional<W: Walk, L: Language>(
 ) -> Result<Ty, NoMemory>
     ensures { IfOk result (λ ty. judged ty (seen_state state.new) ≡ branches.if_judged (L.the language.now) sense.Positive (known.part_in (L.the language.now) condition.now) (known.part_in (L.the language.now) positive.now) [] (Some (known.part_in (L.the language.now) negative.now)) (seen_context context.now) (seen_state state.old)) }
 {
-    let tested = walk.test(alloc, language, context, state, condition)?;
-    let mut visible = Items::new(alloc);
-    assigned(alloc, language, false, condition, &mut visible)?;
-    let so_far = first_branch(
-        alloc, walk, language, context, state, visible, tested, positive,
+    let mut beside = Beside::new();
+    let mut so_far = no_branches(language);
+    one_branch(
+        alloc,
+        walk,
+        language,
+        context,
+        &mut beside,
+        state,
+        &mut so_far,
+        Test::Positive,
+        condition,
+        positive,
     )?;
-    last_branch(alloc, walk, language, context, state, so_far, negative)
+    last_branch(
+        alloc,
+        walk,
+        language,
+        beside.of(context),
+        state,
+        &mut so_far,
+        negative,
+    )
 }

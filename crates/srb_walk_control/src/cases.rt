@@ -1,40 +1,40 @@
 //! `case` and its `when`s.
+//!
+//! What is around grows with the patterns and bodies: each sees what those before it assign.
 
-ghost use Rattle.std.specs.Prelude.{None, ◌≡◌, ◌∷◌, [], Some, IfOk};
-ghost use Rattle.srb_terms.specs.declared.ty.Ty.{Ty};
+ghost use Rattle.std.specs.Prelude.{None, ◌≡◌, ◌∷◌, [], Some, IfOk, OnOk};
+ghost use Rattle.srb_judgement.specs.Branches as branches_spec;
 ghost use Rattle.srb_judgement.specs.Cases as cases;
 ghost use Rattle.srb_judgement.specs.Environments as environments;
 ghost use Rattle.srb_judgement.specs.Kept.{seen_context};
 ghost use Rattle.srb_judgement.specs.Narrowing.{variable_of};
+ghost use Rattle.srb_walk.specs.Beside.{seen_beside};
 ghost use Rattle.srb_walk.specs.Written.{spelling_of};
-ghost use Rattle.srb_judgement.specs.States as states;
-ghost use Rattle.srb_judgement.specs.States.{judged, seeing};
-ghost use Rattle.srb_judgement.specs.Views.{seen_environment, seen_state, seen_tested, settled};
+ghost use Rattle.srb_judgement.specs.States.{judged, moved, seeing};
+ghost use Rattle.srb_judgement.specs.Views.{seen_ends, seen_environment, seen_state, seen_tested, settled};
 ghost use Rattle.srb_walk_control.specs.Passed as passed;
 ghost use Rattle.srb_walk.specs.Known as known;
 
-use crate::branches::{Branching, branch, no_branches, otherwise};
+use crate::branches::{Branching, otherwise, take_rest, taken};
 use rb_tree::syntax::{Tree, When};
 use srb_judgement::contexts::Context;
-use srb_judgement::ends::Ends;
+use srb_judgement::ends::no_ends;
 use srb_judgement::environments::{Environment, joined};
 use srb_judgement::language::Language;
 use srb_judgement::narrowing::{saying, says_pattern, variable_of};
 use srb_judgement::states::State;
 use srb_judgement::tested::Tested;
-use srb_terms::{Items, Name, NoMemory, Ty};
-use srb_walk::around::{after, with_names};
-use srb_walk::assigned::assigned;
+use srb_terms::{Name, NoMemory, Ty};
+use srb_walk::around::{Beside, after};
 use srb_walk::walking::Walk;
 use srb_walk::written::spelling;
 use std::alloc::Global;
 
-/// The patterns so far: the environment in which one of them fits, that in which none does, and the variables that became visible.
+/// The patterns so far: the environment in which one of them fits, and that in which none does.
 #[derive(Drop)]
 pub struct Fitting {
     pub fits: Environment,
     pub rest: Environment,
-    pub visible: Items<Name>,
 }
 
 /// What patterns of `when` are: conditions, or values against the subject, which may be a variable.
@@ -84,47 +84,28 @@ pub fn pattern<W: Walk, L: Language>(
     }
 }
 
-/// Judges a pattern of `when` where these variables became visible.
-fn pattern_after<W: Walk, L: Language>(
-    alloc: Global,
-    walk: &W,
-    language: &L,
-    context: &Context,
-    state: &mut State,
-    subject: &Subject,
-    visible: &[Name],
-    tree: &Tree,
-) -> Result<Tested, NoMemory>
-    ensures { IfOk result (λ t. settled (seen_tested t (seen_state state.new)) ≡ settled (passed.subject_test (L.the language.now) (passed.seen_subject subject.now) (known.part_in (L.the language.now) tree.now) (seeing visible.now (seen_context context.now)) (seen_state state.old))) }
+/// Takes out the environment in which no pattern fits.
+fn take_unfit(so_far: &mut Fitting) -> Environment
+    ensures taken { seen_environment result ≡ seen_environment so_far.old.rest }
+    ensures fits { seen_environment so_far.new.fits ≡ seen_environment so_far.old.fits }
 {
-    let inner = with_names(alloc, context, visible)?;
-    pattern(
-        alloc,
-        walk,
-        language,
-        inner.of(context),
-        state,
-        subject,
-        tree,
-    )
+    std::mem::replace(&mut so_far.rest, Environment::Silent)
 }
 
-/// The patterns so far with one more, which is judged.
-fn with_fit<L: Language>(
+/// Adds one more pattern, which is judged.
+fn add_fit<L: Language>(
     alloc: Global,
     language: &L,
-    fits: Environment,
-    visible: Items<Name>,
+    so_far: &mut Fitting,
     tested: Tested,
-) -> Result<Fitting, NoMemory>
-    ensures { IfOk result (λ f. (s : states.State Ty) → passed.seen_fitting f s ≡ record { fits = environments.joined (L.the language.now) (seen_environment fits) (seen_environment tested.truth); rest = seen_environment tested.falsehood; visible = visible; state = s }) }
+) -> Result<(), NoMemory>
+    ensures fits { OnOk result (seen_environment so_far.new.fits ≡ environments.joined (L.the language.now) (seen_environment so_far.old.fits) (seen_environment tested.truth)) }
+    ensures rest { OnOk result (seen_environment so_far.new.rest ≡ seen_environment tested.falsehood) }
 {
-    let fits = joined(alloc, language, fits, tested.truth)?;
-    Ok(Fitting {
-        fits,
-        rest: tested.falsehood,
-        visible,
-    })
+    let fits = std::mem::replace(&mut so_far.fits, Environment::Silent);
+    so_far.fits = joined(alloc, language, fits, tested.truth)?;
+    so_far.rest = tested.falsehood;
+    Ok(())
 }
 
 /// Judges one more pattern of `when`.
@@ -133,92 +114,92 @@ pub fn fit<W: Walk, L: Language>(
     walk: &W,
     language: &L,
     context: &Context,
+    beside: &mut Beside,
     state: &mut State,
     subject: &Subject,
-    so_far: Fitting,
+    so_far: &mut Fitting,
     tree: &Tree,
-) -> Result<Fitting, NoMemory>
-    ensures { IfOk result (λ f. passed.settled_fitting (passed.seen_fitting f (seen_state state.new)) ≡ passed.settled_fitting (cases.fit_patterns (L.the language.now) (passed.subject_test (L.the language.now) (passed.seen_subject subject.now)) (known.part_in (L.the language.now) tree.now ∷ []) (seen_context context.now) (passed.seen_fitting so_far (seen_state state.old)))) }
+) -> Result<(), NoMemory>
+    ensures { OnOk result (passed.placed_fitting (seen_beside beside.new (seen_context context.now)) (passed.seen_fitting so_far.new (seen_state state.new)) ≡ passed.placed_fitting (seen_beside beside.old (seen_context context.now))
+        (cases.fit_patterns (L.the language.now) (passed.subject_test (L.the language.now) (passed.seen_subject subject.now)) (known.part_in (L.the language.now) tree.now ∷ []) (seen_beside beside.old (seen_context context.now)) (passed.seen_fitting so_far.old (seen_state state.old)))) }
 {
-    let Fitting {
-        fits,
-        rest,
-        mut visible,
-    } = so_far;
-    state.environment = rest;
-    let tested = pattern_after(
+    state.environment = take_unfit(so_far);
+    let tested = pattern(
         alloc,
         walk,
         language,
-        context,
+        beside.of(context),
         state,
         subject,
-        visible.as_slice(),
         tree,
     )?;
-    assigned(alloc, language, false, tree, &mut visible)?;
-    with_fit(alloc, language, fits, visible, tested)
+    add_fit(alloc, language, so_far, tested)?;
+    beside.see(alloc, language, context, tree)?;
+    Ok(())
 }
 
 /// Judges the patterns of a `when`.
-#[inline(never)]
 pub fn patterns<W: Walk, L: Language>(
     alloc: Global,
     walk: &W,
     language: &L,
     context: &Context,
+    beside: &mut Beside,
     state: &mut State,
     subject: &Subject,
-    so_far: Fitting,
+    so_far: &mut Fitting,
     row: &[Tree],
-) -> Result<Fitting, NoMemory>
-    ensures { IfOk result (λ f. passed.settled_fitting (passed.seen_fitting f (seen_state state.new)) ≡ passed.settled_fitting (cases.fit_patterns (L.the language.now) (passed.subject_test (L.the language.now) (passed.seen_subject subject.now)) (known.known_trees (L.the language.now) row.now) (seen_context context.now) (passed.seen_fitting so_far (seen_state state.old)))) }
+) -> Result<(), NoMemory>
+    ensures { OnOk result (passed.placed_fitting (seen_beside beside.new (seen_context context.now)) (passed.seen_fitting so_far.new (seen_state state.new)) ≡ passed.placed_fitting (seen_beside beside.old (seen_context context.now))
+        (cases.fit_patterns (L.the language.now) (passed.subject_test (L.the language.now) (passed.seen_subject subject.now)) (known.known_trees (L.the language.now) row.now) (seen_beside beside.old (seen_context context.now)) (passed.seen_fitting so_far.old (seen_state state.old)))) }
 {
-    let mut fitting = so_far;
     'row: for each in row {
-        fitting = fit(
-            alloc, walk, language, context, state, subject, fitting, each,
+        fit(
+            alloc, walk, language, context, beside, state, subject, so_far, each,
         )?;
     }
-    Ok(fitting)
+    Ok(())
 }
 
-/// Judges what is done where one of the patterns of a `when` fits.
-fn when_body<W: Walk, L: Language>(
+/// Judges the patterns of a `when`, and goes where one of them fits. Where none does, no branch is taken so far.
+#[inline(never)]
+fn fitted<W: Walk, L: Language>(
     alloc: Global,
     walk: &W,
     language: &L,
     context: &Context,
+    beside: &mut Beside,
     state: &mut State,
-    ends: Ends,
-    fitting: Fitting,
-    body: &Tree,
-) -> Result<Branching, NoMemory>
-    ensures { IfOk result (λ b. passed.settled_branching (passed.seen_branching b (seen_state state.new)) ≡ passed.settled_branching (cases.after_patterns (L.the language.now) (known.part_in (L.the language.now) body.now) (seen_context context.now)
-        (record { ty = ends.ty; ends = seen_environment ends.environment; rest = seen_environment fitting.rest; visible = fitting.visible; state = seen_state state.old }) (passed.seen_fitting fitting (seen_state state.old)))) }
+    subject: &Subject,
+    so_far: &mut Branching,
+    row: &[Tree],
+) -> Result<(), NoMemory>
+    ensures rest { OnOk result (seen_environment so_far.new.rest ≡ (cases.fit_patterns (L.the language.now) (passed.subject_test (L.the language.now) (passed.seen_subject subject.now)) (known.known_trees (L.the language.now) row.now) (seen_beside beside.old (seen_context context.now)) (cases.fitting (L.the language.now) (seen_environment so_far.old.rest) [] (seen_state state.old))).rest) }
+    ensures state { OnOk result (seen_state state.new ≡ moved (cases.fit_patterns (L.the language.now) (passed.subject_test (L.the language.now) (passed.seen_subject subject.now)) (known.known_trees (L.the language.now) row.now) (seen_beside beside.old (seen_context context.now)) (cases.fitting (L.the language.now) (seen_environment so_far.old.rest) [] (seen_state state.old))).fits
+        (cases.fit_patterns (L.the language.now) (passed.subject_test (L.the language.now) (passed.seen_subject subject.now)) (known.known_trees (L.the language.now) row.now) (seen_beside beside.old (seen_context context.now)) (cases.fitting (L.the language.now) (seen_environment so_far.old.rest) [] (seen_state state.old))).state) }
+    ensures seen { OnOk result (seen_beside beside.new (seen_context context.now) ≡ seeing (cases.fit_patterns (L.the language.now) (passed.subject_test (L.the language.now) (passed.seen_subject subject.now)) (known.known_trees (L.the language.now) row.now) (seen_beside beside.old (seen_context context.now)) (cases.fitting (L.the language.now) (seen_environment so_far.old.rest) [] (seen_state state.old))).visible (seen_beside beside.old (seen_context context.now))) }
+    ensures ends { OnOk result (seen_ends so_far.new.ends ≡ seen_ends so_far.old.ends) }
 {
-    let Fitting {
-        fits,
+    let rest = take_rest(so_far);
+    let mut fitting = Fitting {
+        fits: Environment::Dead,
         rest,
-        mut visible,
-    } = fitting;
-    let ends = branch(
+    };
+    patterns(
         alloc,
         walk,
         language,
         context,
+        beside,
         state,
-        visible.as_slice(),
-        ends,
-        fits,
-        body,
+        subject,
+        &mut fitting,
+        row,
     )?;
-    assigned(alloc, language, false, body, &mut visible)?;
-    Ok(Branching {
-        ends,
-        rest,
-        visible,
-    })
+    let Fitting { fits, rest } = fitting;
+    so_far.rest = rest;
+    state.environment = fits;
+    Ok(())
 }
 
 /// Judges a `when`.
@@ -227,36 +208,30 @@ pub fn when<W: Walk, L: Language>(
     walk: &W,
     language: &L,
     context: &Context,
+    beside: &mut Beside,
     state: &mut State,
     subject: &Subject,
-    so_far: Branching,
+    so_far: &mut Branching,
     when: &When<Tree>,
-) -> Result<Branching, NoMemory>
-    ensures { IfOk result (λ b. passed.settled_branching (passed.seen_branching b (seen_state state.new)) ≡ passed.settled_branching (cases.with_whens (L.the language.now) (passed.subject_test (L.the language.now) (passed.seen_subject subject.now)) (known.known_when (L.the language.now) when.now ∷ []) (seen_context context.now) (passed.seen_branching so_far (seen_state state.old)))) }
+) -> Result<(), NoMemory>
+    ensures { OnOk result (passed.placed (seen_beside beside.new (seen_context context.now)) (passed.seen_branching so_far.new (seen_state state.new)) ≡ passed.placed (seen_beside beside.old (seen_context context.now))
+        (cases.with_whens (L.the language.now) (passed.subject_test (L.the language.now) (passed.seen_subject subject.now)) (known.known_when (L.the language.now) when.now ∷ []) (seen_beside beside.old (seen_context context.now)) (passed.seen_branching so_far.old (seen_state state.old)))) }
 {
-    let Branching {
-        ends,
-        rest,
-        visible,
-    } = so_far;
-    let none = Fitting {
-        fits: Environment::Dead,
-        rest,
-        visible,
-    };
-    let fitting = patterns(
+    fitted(
         alloc,
         walk,
         language,
         context,
+        beside,
         state,
         subject,
-        none,
+        so_far,
         when.patterns.as_slice(),
     )?;
-    when_body(
-        alloc, walk, language, context, state, ends, fitting, &when.body,
-    )
+    taken(
+        alloc, walk, language, context, beside, state, so_far, &when.body,
+    )?;
+    Ok(())
 }
 
 /// Judges the `when`s of a `case`.
@@ -265,20 +240,36 @@ pub fn whens<W: Walk, L: Language>(
     walk: &W,
     language: &L,
     context: &Context,
+    beside: &mut Beside,
     state: &mut State,
     subject: &Subject,
-    so_far: Branching,
+    so_far: &mut Branching,
     row: &[When<Tree>],
-) -> Result<Branching, NoMemory>
-    ensures { IfOk result (λ b. passed.settled_branching (passed.seen_branching b (seen_state state.new)) ≡ passed.settled_branching (cases.with_whens (L.the language.now) (passed.subject_test (L.the language.now) (passed.seen_subject subject.now)) (known.known_whens (L.the language.now) row.now) (seen_context context.now) (passed.seen_branching so_far (seen_state state.old)))) }
+) -> Result<(), NoMemory>
+    ensures { OnOk result (passed.placed (seen_beside beside.new (seen_context context.now)) (passed.seen_branching so_far.new (seen_state state.new)) ≡ passed.placed (seen_beside beside.old (seen_context context.now))
+        (cases.with_whens (L.the language.now) (passed.subject_test (L.the language.now) (passed.seen_subject subject.now)) (known.known_whens (L.the language.now) row.now) (seen_beside beside.old (seen_context context.now)) (passed.seen_branching so_far.old (seen_state state.old)))) }
 {
-    let mut branching = so_far;
     'row: for each in row {
-        branching = when(
-            alloc, walk, language, context, state, subject, branching, each,
+        when(
+            alloc, walk, language, context, beside, state, subject, so_far, each,
         )?;
     }
-    Ok(branching)
+    Ok(())
+}
+
+/// No branch yet, of a `case` that begins in the state's environment.
+#[inline(never)]
+fn before_whens<L: Language>(
+    alloc: Global,
+    language: &L,
+    state: &State,
+) -> Result<Branching, NoMemory>
+    ensures { IfOk result (λ b. passed.seen_branching b (seen_state state.now) ≡ branches_spec.branching (L.the language.now) (seen_state state.now).environment (seen_state state.now)) }
+{
+    Ok(Branching {
+        ends: no_ends(language),
+        rest: state.environment.copied(alloc)?,
+    })
 }
 
 /// Judges the `when`s of a `case`, and what stands after `else`.
@@ -294,9 +285,28 @@ fn all_whens<W: Walk, L: Language>(
 ) -> Result<Ty, NoMemory>
     ensures { IfOk result (λ ty. judged ty (seen_state state.new) ≡ cases.case_after (L.the language.now) (passed.subject_test (L.the language.now) (passed.seen_subject subject.now)) (known.known_whens (L.the language.now) row.now) (known.known_option (L.the language.now) last.now) (seen_context context.now) (seen_state state.old)) }
 {
-    let none = no_branches(alloc, language, state)?;
-    let so_far = whens(alloc, walk, language, context, state, subject, none, row)?;
-    otherwise(alloc, walk, language, context, state, so_far, last)
+    let mut beside = Beside::new();
+    let mut so_far = before_whens(alloc, language, state)?;
+    whens(
+        alloc,
+        walk,
+        language,
+        context,
+        &mut beside,
+        state,
+        subject,
+        &mut so_far,
+        row,
+    )?;
+    otherwise(
+        alloc,
+        walk,
+        language,
+        beside.of(context),
+        state,
+        &mut so_far,
+        last,
+    )
 }
 
 /// Judges a `case` without a subject: its patterns are conditions.

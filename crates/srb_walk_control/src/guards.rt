@@ -1,28 +1,30 @@
 //! `begin`, `rescue`, `else` and `ensure`.
 
 ghost use Rattle.std.specs.Prelude.{◌≡◌, [], ◌∷◌, ◌++◌, map, false, Some, IfOk, OnOk};
+ghost use Rattle.srb_judgement.specs.Ends as ends_spec;
 ghost use Rattle.srb_judgement.specs.Guards as guards_spec;
 ghost use Rattle.srb_judgement.specs.Kept.{seen_context};
 ghost use Rattle.srb_judgement.specs.Sequences.{all_declared};
 ghost use Rattle.srb_judgement.specs.States.{judged, moved, seeing};
 ghost use Rattle.srb_judgement.specs.Variables.{part_operand};
-ghost use Rattle.srb_judgement.specs.Views.{seen_environment, seen_state, settled};
+ghost use Rattle.srb_judgement.specs.Views.{seen_aside, seen_ends, seen_environment, seen_left, seen_state};
 ghost use Rattle.srb_walk_control.specs.Passed as passed;
 ghost use Rattle.srb_walk.specs.Assigned.{names_of};
 ghost use Rattle.srb_walk.specs.Judging as spec;
 ghost use Rattle.srb_walk.specs.Known as known;
 
+use crate::ends::{add_end, add_first_end, whole};
 use crate::sequences::operands;
 use rb_tree::syntax::{Guarded, PlacedName, Rescue, Tree};
-use srb_judgement::blocks::set_aside;
+use srb_judgement::blocks::{Aside, set_aside};
 use srb_judgement::contexts::Context;
-use srb_judgement::ends::{Ends, all_ends, no_ends, with_end, with_first_end};
+use srb_judgement::ends::{Ends, no_ends};
 use srb_judgement::environments::Environment;
 use srb_judgement::guards::{
     begin_ensure, catch, caught_type, end_ensure, handled, leave_guard, names_ensured,
 };
 use srb_judgement::language::Language;
-use srb_judgement::states::State;
+use srb_judgement::states::{Jumps, State, no_jumps};
 use srb_terms::{Items, Name, NoMemory, Ty};
 use srb_walk::around::with_names;
 use srb_walk::assigned::assigned;
@@ -130,45 +132,41 @@ fn after_patterns<L: Language>(
     language: &L,
     context: &Context,
     state: &mut State,
-    so_far: Rescuing,
+    so_far: &mut Rescuing,
     clause: &Rescue<Tree>,
-) -> Result<Rescuing, NoMemory>
-    ensures { IfOk result (λ r. passed.seen_rescuing r (seen_state state.new) ≡ passed.caught_after (L.the language.now) (known.known_rescue (L.the language.now) clause.now) (seen_context context.now) (passed.seen_rescuing so_far (seen_state state.old)) (seen_state state.old)) }
+) -> Result<(), NoMemory>
+    ensures { OnOk result (passed.seen_rescuing so_far.new (seen_state state.new) ≡ passed.caught_after (L.the language.now) (known.known_rescue (L.the language.now) clause.now) (seen_context context.now) (passed.seen_rescuing so_far.old (seen_state state.old)) (seen_state state.old)) }
 {
-    let Rescuing {
-        ends,
-        patterns: _,
-        mut visible,
-    } = so_far;
-    add_caught(alloc, language, clause, &mut visible)?;
-    let patterns = state.environment.copied(alloc)?;
+    add_caught(alloc, language, clause, &mut so_far.visible)?;
+    so_far.patterns = state.environment.copied(alloc)?;
     catch_all(alloc, language, context, state, clause)?;
-    Ok(Rescuing {
-        ends,
-        patterns,
-        visible,
-    })
+    Ok(())
+}
+
+/// Takes out the environment in which the next patterns are judged.
+fn take_patterns(so_far: &mut Rescuing) -> Environment
+    ensures taken { seen_environment result ≡ seen_environment so_far.old.patterns }
+    ensures ends { so_far.new.ends ≡ so_far.old.ends }
+    ensures visible { so_far.new.visible ≡ so_far.old.visible }
+{
+    std::mem::replace(&mut so_far.patterns, Environment::Silent)
 }
 
 /// Judges the patterns of a `rescue` clause and assigns its variable. The context is that of the guard.
+#[inline(never)]
 pub fn caught<W: Walk, L: Language>(
     alloc: Global,
     walk: &W,
     language: &L,
     context: &Context,
     state: &mut State,
-    so_far: Rescuing,
+    so_far: &mut Rescuing,
     clause: &Rescue<Tree>,
-) -> Result<Rescuing, NoMemory>
-    ensures { IfOk result (λ r. passed.seen_rescuing r (seen_state state.new) ≡ passed.caught_by (L.the language.now) (known.known_rescue (L.the language.now) clause.now) (seen_context context.now) (passed.seen_rescuing so_far (seen_state state.old))) }
+) -> Result<(), NoMemory>
+    ensures { OnOk result (passed.seen_rescuing so_far.new (seen_state state.new) ≡ passed.caught_by (L.the language.now) (known.known_rescue (L.the language.now) clause.now) (seen_context context.now) (passed.seen_rescuing so_far.old (seen_state state.old))) }
 {
-    let Rescuing {
-        ends,
-        patterns,
-        visible,
-    } = so_far;
-    let inner = with_names(alloc, context, visible.as_slice())?;
-    state.environment = patterns;
+    let inner = with_names(alloc, context, so_far.visible.as_slice())?;
+    state.environment = take_patterns(so_far);
     operands(
         alloc,
         walk,
@@ -177,12 +175,26 @@ pub fn caught<W: Walk, L: Language>(
         state,
         clause.patterns.as_slice(),
     )?;
-    let left = Rescuing {
-        ends,
-        patterns: Environment::Silent,
-        visible,
-    };
-    after_patterns(alloc, language, context, state, left, clause)
+    after_patterns(alloc, language, context, state, so_far, clause)?;
+    Ok(())
+}
+
+/// Adds the end of the body of a clause, which has this type, and makes what it assigns visible.
+#[inline(never)]
+fn end_clause<L: Language>(
+    alloc: Global,
+    language: &L,
+    state: &mut State,
+    so_far: &mut Rescuing,
+    body: &Tree,
+    ty: Ty,
+) -> Result<(), NoMemory>
+    ensures { OnOk result (passed.settled_rescuing (passed.seen_rescuing so_far.new (seen_state state.new)) ≡ passed.settled_rescuing (guards_spec.with_clause_end (L.the language.now) (passed.seen_rescuing so_far.old (seen_state state.old)) (seen_environment so_far.old.patterns) (so_far.old.visible ++ names_of (L.the language.now) false body.now)
+        (judged ty (seen_state state.old)))) }
+{
+    assigned(alloc, language, false, body, &mut so_far.visible)?;
+    add_end(alloc, language, &mut so_far.ends, ty, state)?;
+    Ok(())
 }
 
 /// Judges the body of a clause, whose patterns are judged.
@@ -192,33 +204,23 @@ fn clause_body<W: Walk, L: Language>(
     language: &L,
     context: &Context,
     state: &mut State,
-    so_far: Rescuing,
+    so_far: &mut Rescuing,
     body: &Tree,
-) -> Result<Rescuing, NoMemory>
-    ensures { IfOk result (λ r. passed.settled_rescuing (passed.seen_rescuing r (seen_state state.new)) ≡ passed.settled_rescuing (guards_spec.with_clause_end (L.the language.now) (passed.seen_rescuing so_far (seen_state state.old)) (seen_environment so_far.patterns) (so_far.visible ++ names_of (L.the language.now) false body.now)
-        (spec.judge_of (L.the language.now) body.now (seeing so_far.visible (seen_context context.now)) (seen_state state.old)))) }
+) -> Result<(), NoMemory>
+    ensures { OnOk result (passed.settled_rescuing (passed.seen_rescuing so_far.new (seen_state state.new)) ≡ passed.settled_rescuing (guards_spec.with_clause_end (L.the language.now) (passed.seen_rescuing so_far.old (seen_state state.old)) (seen_environment so_far.old.patterns) (so_far.old.visible ++ names_of (L.the language.now) false body.now)
+        (spec.judge_of (L.the language.now) body.now (seeing so_far.old.visible (seen_context context.now)) (seen_state state.old)))) }
 {
-    let Rescuing {
-        ends,
-        patterns,
-        mut visible,
-    } = so_far;
     let ty = judge_seeing(
         alloc,
         walk,
         language,
         context,
         state,
-        visible.as_slice(),
+        so_far.visible.as_slice(),
         body,
     )?;
-    assigned(alloc, language, false, body, &mut visible)?;
-    let ends = with_end(alloc, language, ends, ty, state)?;
-    Ok(Rescuing {
-        ends,
-        patterns,
-        visible,
-    })
+    end_clause(alloc, language, state, so_far, body, ty)?;
+    Ok(())
 }
 
 /// Judges a `rescue` clause.
@@ -228,13 +230,14 @@ pub fn clause<W: Walk, L: Language>(
     language: &L,
     context: &Context,
     state: &mut State,
-    so_far: Rescuing,
+    so_far: &mut Rescuing,
     clause: &Rescue<Tree>,
-) -> Result<Rescuing, NoMemory>
-    ensures { IfOk result (λ r. passed.settled_rescuing (passed.seen_rescuing r (seen_state state.new)) ≡ passed.settled_rescuing (guards_spec.with_clauses (L.the language.now) (known.known_rescue (L.the language.now) clause.now ∷ []) (seen_context context.now) (passed.seen_rescuing so_far (seen_state state.old)))) }
+) -> Result<(), NoMemory>
+    ensures { OnOk result (passed.settled_rescuing (passed.seen_rescuing so_far.new (seen_state state.new)) ≡ passed.settled_rescuing (guards_spec.with_clauses (L.the language.now) (known.known_rescue (L.the language.now) clause.now ∷ []) (seen_context context.now) (passed.seen_rescuing so_far.old (seen_state state.old)))) }
 {
-    let found = caught(alloc, walk, language, context, state, so_far, clause)?;
-    clause_body(alloc, walk, language, context, state, found, &clause.body)
+    caught(alloc, walk, language, context, state, so_far, clause)?;
+    clause_body(alloc, walk, language, context, state, so_far, &clause.body)?;
+    Ok(())
 }
 
 /// Judges `rescue` clauses.
@@ -244,40 +247,48 @@ pub fn clauses<W: Walk, L: Language>(
     language: &L,
     context: &Context,
     state: &mut State,
-    so_far: Rescuing,
+    so_far: &mut Rescuing,
     row: &[Rescue<Tree>],
-) -> Result<Rescuing, NoMemory>
-    ensures { IfOk result (λ r. passed.settled_rescuing (passed.seen_rescuing r (seen_state state.new)) ≡ passed.settled_rescuing (guards_spec.with_clauses (L.the language.now) (known.known_rescues (L.the language.now) row.now) (seen_context context.now) (passed.seen_rescuing so_far (seen_state state.old)))) }
+) -> Result<(), NoMemory>
+    ensures { OnOk result (passed.settled_rescuing (passed.seen_rescuing so_far.new (seen_state state.new)) ≡ passed.settled_rescuing (guards_spec.with_clauses (L.the language.now) (known.known_rescues (L.the language.now) row.now) (seen_context context.now) (passed.seen_rescuing so_far.old (seen_state state.old)))) }
 {
-    let mut rescuing = so_far;
     'row: for each in row {
-        rescuing = clause(alloc, walk, language, context, state, rescuing, each)?;
+        clause(alloc, walk, language, context, state, so_far, each)?;
     }
-    Ok(rescuing)
+    Ok(())
 }
 
-/// With the end of the first body of a guard in front, which has no `else`.
-#[inline(never)]
+/// Adds the end of the first body of a guard, which has no `else`, in front.
 fn without_else<L: Language>(
     alloc: Global,
     language: &L,
     state: &State,
-    so_far: Rescuing,
+    so_far: &mut Rescuing,
     entry: Environment,
     first: Ty,
-) -> Result<Rescuing, NoMemory>
-    ensures { IfOk result (λ r. passed.seen_rescuing r (seen_state state.now) ≡ guards_spec.with_first (L.the language.now) (passed.seen_rescuing so_far (seen_state state.now)) (seen_environment entry) first) }
+) -> Result<(), NoMemory>
+    ensures { OnOk result (passed.seen_rescuing so_far.new (seen_state state.now) ≡ guards_spec.with_first (L.the language.now) (passed.seen_rescuing so_far.old (seen_state state.now)) (seen_environment entry) first) }
 {
-    let Rescuing {
-        ends,
-        patterns,
-        visible,
-    } = so_far;
-    Ok(Rescuing {
-        ends: with_first_end(alloc, language, ends, entry, first)?,
-        patterns,
-        visible,
-    })
+    add_first_end(alloc, language, &mut so_far.ends, entry, first)
+}
+
+/// Adds the end of the `else` of a guard, which has this type, in front, and makes what it assigns visible.
+#[inline(never)]
+fn end_else<L: Language>(
+    alloc: Global,
+    language: &L,
+    state: &mut State,
+    so_far: &mut Rescuing,
+    body: &Tree,
+    ty: Ty,
+) -> Result<(), NoMemory>
+    ensures { OnOk result (passed.settled_rescuing (passed.seen_rescuing so_far.new (seen_state state.new)) ≡ passed.settled_rescuing (guards_spec.with_else_end (L.the language.now) (passed.seen_rescuing so_far.old (seen_state state.old)) (so_far.old.visible ++ names_of (L.the language.now) false body.now)
+        (judged ty (seen_state state.old)))) }
+{
+    assigned(alloc, language, false, body, &mut so_far.visible)?;
+    let after = state.take_environment();
+    add_first_end(alloc, language, &mut so_far.ends, after, ty)?;
+    Ok(())
 }
 
 /// Judges the `else` of a guard in this environment.
@@ -287,18 +298,13 @@ fn else_body<W: Walk, L: Language>(
     language: &L,
     context: &Context,
     state: &mut State,
-    so_far: Rescuing,
+    so_far: &mut Rescuing,
     entry: Environment,
     body: &Tree,
-) -> Result<Rescuing, NoMemory>
-    ensures { IfOk result (λ r. passed.settled_rescuing (passed.seen_rescuing r (seen_state state.new)) ≡ passed.settled_rescuing (guards_spec.with_else_end (L.the language.now) (passed.seen_rescuing so_far (seen_state state.old)) (so_far.visible ++ names_of (L.the language.now) false body.now)
-        (spec.judge_of (L.the language.now) body.now (seeing so_far.visible (seen_context context.now)) (moved (seen_environment entry) (seen_state state.old))))) }
+) -> Result<(), NoMemory>
+    ensures { OnOk result (passed.settled_rescuing (passed.seen_rescuing so_far.new (seen_state state.new)) ≡ passed.settled_rescuing (guards_spec.with_else_end (L.the language.now) (passed.seen_rescuing so_far.old (seen_state state.old)) (so_far.old.visible ++ names_of (L.the language.now) false body.now)
+        (spec.judge_of (L.the language.now) body.now (seeing so_far.old.visible (seen_context context.now)) (moved (seen_environment entry) (seen_state state.old))))) }
 {
-    let Rescuing {
-        ends,
-        patterns,
-        mut visible,
-    } = so_far;
     state.environment = entry;
     let ty = judge_seeing(
         alloc,
@@ -306,17 +312,11 @@ fn else_body<W: Walk, L: Language>(
         language,
         context,
         state,
-        visible.as_slice(),
+        so_far.visible.as_slice(),
         body,
     )?;
-    assigned(alloc, language, false, body, &mut visible)?;
-    let after = state.take_environment();
-    let ends = with_first_end(alloc, language, ends, after, ty)?;
-    Ok(Rescuing {
-        ends,
-        patterns,
-        visible,
-    })
+    end_else(alloc, language, state, so_far, body, ty)?;
+    Ok(())
 }
 
 /// Judges the `else` of a guard, perhaps a missing one, in the environment after its first body, which has this type.
@@ -326,12 +326,12 @@ pub fn guard_else<W: Walk, L: Language>(
     language: &L,
     context: &Context,
     state: &mut State,
-    so_far: Rescuing,
+    so_far: &mut Rescuing,
     entry: Environment,
     first: Ty,
     otherwise: &Option<Tree>,
-) -> Result<Rescuing, NoMemory>
-    ensures { IfOk result (λ r. passed.settled_rescuing (passed.seen_rescuing r (seen_state state.new)) ≡ passed.settled_rescuing (guards_spec.with_else (L.the language.now) (known.known_option (L.the language.now) otherwise.now) (seen_context context.now) (judged first (moved (seen_environment entry) (seen_state state.old))) (passed.seen_rescuing so_far (seen_state state.old)))) }
+) -> Result<(), NoMemory>
+    ensures { OnOk result (passed.settled_rescuing (passed.seen_rescuing so_far.new (seen_state state.new)) ≡ passed.settled_rescuing (guards_spec.with_else (L.the language.now) (known.known_option (L.the language.now) otherwise.now) (seen_context context.now) (judged first (moved (seen_environment entry) (seen_state state.old))) (passed.seen_rescuing so_far.old (seen_state state.old)))) }
 {
     match otherwise {
         None => without_else(alloc, language, state, so_far, entry, first),
@@ -356,6 +356,26 @@ pub fn ensure_names<L: Language>(
     names_ensured(alloc, context, declares.as_slice(), assigns.as_slice())
 }
 
+/// Ends an `ensure` whose body is judged, with these ends and jumps of all parts before it, and answers the type of the whole. The context is
+/// that of the body.
+#[inline(never)]
+fn leave_ensure<L: Language>(
+    alloc: Global,
+    language: &L,
+    context: &Context,
+    state: &mut State,
+    ends: &mut Ends,
+    jumps: &mut Jumps,
+    body: &Tree,
+) -> Result<Ty, NoMemory>
+    ensures { IfOk result (λ ty. judged ty (seen_state state.new) ≡ guards_spec.ensured_whole (L.the language.now) (seen_state state.old).environment (guards_spec.ensured_names (L.the language.now) (seen_context context.now) (known.part_in (L.the language.now) body.now).it) (seen_ends ends.old).ty (seen_ends ends.old).environment (map seen_left jumps.old.breaks) (map seen_left jumps.old.nexts) (seen_state state.old)) }
+{
+    let names = ensure_names(alloc, language, context, body)?;
+    let all = std::mem::replace(ends, no_ends(language));
+    let before = std::mem::replace(jumps, no_jumps(alloc));
+    end_ensure(alloc, language, names.as_slice(), all, before, state)
+}
+
 /// Judges the body of an `ensure`, by the environment at the guard's entry, and answers the type of the whole, which has these ends. The
 /// context is that after all parts before it.
 pub fn ensure_body<W: Walk, L: Language>(
@@ -364,19 +384,18 @@ pub fn ensure_body<W: Walk, L: Language>(
     language: &L,
     context: &Context,
     state: &mut State,
-    ends: Ends,
+    ends: &mut Ends,
     entry: &Environment,
     body: &Tree,
 ) -> Result<Ty, NoMemory>
-    ensures { IfOk result (λ ty. (r : guards_spec.Rescuing Ty) → r ≡ record r { ty = ends.ty; ends = seen_environment ends.environment; state = seen_state state.old }
+    ensures { IfOk result (λ ty. (r : guards_spec.Rescuing Ty) → r ≡ record r { ty = ends.old.ty; ends = seen_environment ends.old.environment; state = seen_state state.old }
         → judged ty (seen_state state.new) ≡ guards_spec.after_ensure (L.the language.now) (known.part_in (L.the language.now) body.now) (seen_context context.now) r
         (spec.judge_of (L.the language.now) body.now (seen_context context.now)
         (record (seen_state state.old) { environment = guards_spec.handled (L.the language.now) (seen_environment entry.now) (seen_state state.old).assigned; breaks = []; nexts = [] }))) }
 {
-    let jumps = begin_ensure(alloc, language, entry, state)?;
+    let mut jumps = begin_ensure(alloc, language, entry, state)?;
     walk.judge(alloc, language, context, state, body)?;
-    let names = ensure_names(alloc, language, context, body)?;
-    end_ensure(alloc, language, names.as_slice(), ends, jumps, state)
+    leave_ensure(alloc, language, context, state, ends, &mut jumps, body)
 }
 
 /// Judges an `ensure` by the environment at the guard's entry, and answers the type of the whole. The context is that of the guard.
@@ -386,25 +405,20 @@ fn with_ensure<W: Walk, L: Language>(
     language: &L,
     context: &Context,
     state: &mut State,
-    so_far: Rescuing,
+    so_far: &mut Rescuing,
     entry: &Environment,
     body: &Tree,
 ) -> Result<Ty, NoMemory>
-    ensures { IfOk result (λ ty. judged ty (seen_state state.new) ≡ guards_spec.with_ensure (L.the language.now) (Some (known.part_in (L.the language.now) body.now)) (seen_context context.now) (seen_environment entry.now) (passed.seen_rescuing so_far (seen_state state.old))) }
+    ensures { IfOk result (λ ty. judged ty (seen_state state.new) ≡ guards_spec.with_ensure (L.the language.now) (Some (known.part_in (L.the language.now) body.now)) (seen_context context.now) (seen_environment entry.now) (passed.seen_rescuing so_far.old (seen_state state.old))) }
 {
-    let Rescuing {
-        ends,
-        patterns: _,
-        visible,
-    } = so_far;
-    let inner = with_names(alloc, context, visible.as_slice())?;
+    let inner = with_names(alloc, context, so_far.visible.as_slice())?;
     ensure_body(
         alloc,
         walk,
         language,
         inner.of(context),
         state,
-        ends,
+        &mut so_far.ends,
         entry,
         body,
     )
@@ -417,14 +431,14 @@ pub fn ensured<W: Walk, L: Language>(
     language: &L,
     context: &Context,
     state: &mut State,
-    so_far: Rescuing,
+    so_far: &mut Rescuing,
     entry: &Environment,
     ensure: &Option<Tree>,
 ) -> Result<Ty, NoMemory>
-    ensures { IfOk result (λ ty. judged ty (seen_state state.new) ≡ guards_spec.with_ensure (L.the language.now) (known.known_option (L.the language.now) ensure.now) (seen_context context.now) (seen_environment entry.now) (passed.seen_rescuing so_far (seen_state state.old))) }
+    ensures { IfOk result (λ ty. judged ty (seen_state state.new) ≡ guards_spec.with_ensure (L.the language.now) (known.known_option (L.the language.now) ensure.now) (seen_context context.now) (seen_environment entry.now) (passed.seen_rescuing so_far.old (seen_state state.old))) }
 {
     match ensure {
-        None => Ok(all_ends(language, so_far.ends, state)),
+        None => Ok(whole(language, &mut so_far.ends, state)),
         Some(body) => with_ensure(alloc, walk, language, context, state, so_far, entry, body),
     }
 }
@@ -437,7 +451,7 @@ fn after_first<W: Walk, L: Language>(
     language: &L,
     context: &Context,
     state: &mut State,
-    start: Rescuing,
+    so_far: &mut Rescuing,
     entry: &Environment,
     after: Environment,
     first: Ty,
@@ -445,24 +459,24 @@ fn after_first<W: Walk, L: Language>(
 ) -> Result<Ty, NoMemory>
     ensures { IfOk result (λ ty. judged ty (seen_state state.new) ≡ guards_spec.with_ensure (L.the language.now) (known.known_guarded (L.the language.now) guarded.now).ensure (seen_context context.now) (seen_environment entry.now)
         (guards_spec.with_else (L.the language.now) (known.known_guarded (L.the language.now) guarded.now).otherwise (seen_context context.now) (judged first (moved (seen_environment after) (seen_state state.old)))
-        (guards_spec.with_clauses (L.the language.now) (known.known_guarded (L.the language.now) guarded.now).rescues (seen_context context.now) (passed.seen_rescuing start (seen_state state.old))))) }
+        (guards_spec.with_clauses (L.the language.now) (known.known_guarded (L.the language.now) guarded.now).rescues (seen_context context.now) (passed.seen_rescuing so_far.old (seen_state state.old))))) }
 {
-    let some = clauses(
+    clauses(
         alloc,
         walk,
         language,
         context,
         state,
-        start,
+        so_far,
         guarded.rescues.as_slice(),
     )?;
-    let all = guard_else(
+    guard_else(
         alloc,
         walk,
         language,
         context,
         state,
-        some,
+        so_far,
         after,
         first,
         &guarded.otherwise,
@@ -473,10 +487,46 @@ fn after_first<W: Walk, L: Language>(
         language,
         context,
         state,
-        all,
+        so_far,
         entry,
         &guarded.ensure,
     )
+}
+
+/// No clause yet, by the environment at the guard's entry and the state after its first body.
+#[inline(never)]
+fn no_clauses<L: Language>(
+    alloc: Global,
+    language: &L,
+    entry: &Environment,
+    state: &State,
+    body: &Tree,
+) -> Result<Rescuing, NoMemory>
+    ensures ends { IfOk result (λ r. seen_ends r.ends ≡ ends_spec.no_ends (L.the language.now)) }
+    ensures patterns { IfOk result (λ r. seen_environment r.patterns ≡ guards_spec.handled (L.the language.now) (seen_environment entry.now) (seen_state state.now).assigned) }
+    ensures visible { IfOk result (λ r. r.visible ≡ names_of (L.the language.now) false body.now) }
+{
+    let mut visible = Items::new(alloc);
+    assigned(alloc, language, false, body, &mut visible)?;
+    let patterns = handled(alloc, language, entry, state.assigned.as_slice())?;
+    Ok(Rescuing {
+        ends: no_ends(language),
+        patterns,
+        visible,
+    })
+}
+
+/// Leaves a guard: its jumps and assignments stand after those before it.
+#[inline(never)]
+fn leave<L: Language>(
+    language: &L,
+    aside: Aside,
+    ty: &Ty,
+    state: &mut State,
+) -> Result<(), NoMemory>
+    ensures { OnOk result (judged ty.now (seen_state state.new) ≡ guards_spec.left_guard (L.the language.now) (seen_aside aside) (judged ty.now (seen_state state.old))) }
+{
+    leave_guard(language, aside, ty, state)
 }
 
 /// Judges a body with its `rescue` clauses, `else` and `ensure`.
@@ -492,32 +542,20 @@ pub fn guard<W: Walk, L: Language>(
 {
     let aside = set_aside(alloc, state)?;
     let first = walk.judge(alloc, language, context, state, &guarded.body)?;
-    let mut visible = Items::new(alloc);
-    assigned(alloc, language, false, &guarded.body, &mut visible)?;
-    let patterns = handled(
-        alloc,
-        language,
-        &aside.environment,
-        state.assigned.as_slice(),
-    )?;
+    let mut so_far = no_clauses(alloc, language, &aside.environment, state, &guarded.body)?;
     let after = state.take_environment();
-    let start = Rescuing {
-        ends: no_ends(language),
-        patterns,
-        visible,
-    };
     let ty = after_first(
         alloc,
         walk,
         language,
         context,
         state,
-        start,
+        &mut so_far,
         &aside.environment,
         after,
         first,
         guarded,
     )?;
-    leave_guard(language, aside, &ty, state)?;
+    leave(language, aside, &ty, state)?;
     Ok(ty)
 }

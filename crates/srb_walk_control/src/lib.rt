@@ -10,6 +10,7 @@
 
 pub mod branches;
 pub mod cases;
+pub mod ends;
 pub mod guards;
 pub mod loops;
 pub mod sequences;

@@ -1,4 +1,4 @@
-use Rattle.std.proofs.Common.{◌≡◌, IfOk, subst}
+use Rattle.std.proofs.Common.{ap, ◌∙◌}
 use Rattle.srb_judgement.specs.Kept.{seen_context}
 use Rattle.srb_judgement.specs.Views.{seen_state}
 use Rattle.srb_walk.specs.Known.{known_rescue}
@@ -8,7 +8,7 @@ use Rattle.srb_walk_control.proofs.guards.clause.Goals as goal
 
 pub returns : goal.returns
 returns g c = let the = g.L.Language.the c.args.language.now in
-    subst (λ x. IfOk c.clause_body.result (λ r. settled_rescuing (seen_rescuing r (seen_state c.clause_body.new.state)) ≡ settled_rescuing x))
-    (clause_is the (known_rescue the c.args.clause.now) (seen_context c.args.context.now) (seen_rescuing c.args.so_far (seen_state c.args.state.now))
-    (seen_rescuing c.in_ok-found.found (seen_state c.caught.new.state)) c.in_ok-found.ensures)
-    c.clause_body.ensures
+    c.in_ok-clause_body.ensures
+    ∙ ap (λ r. settled_rescuing r)
+    (clause_is the (known_rescue the c.args.clause.now) (seen_context c.args.context.now) (seen_rescuing c.args.so_far.now (seen_state c.args.state.now))
+    (seen_rescuing c.caught.new.so_far (seen_state c.caught.new.state)) c.in_ok-caught.ensures)

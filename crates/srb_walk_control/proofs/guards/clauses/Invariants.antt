@@ -8,5 +8,5 @@ use Rattle.srb_walk_control.proofs.guards.clauses.Given as goal
 
 abbrev pub invariant-row : goal.invariant-row
 invariant-row g l = let the = g.L.Language.the l.language in
-    settled_rescuing (with_clauses the (known_rescues the (drop l.each-index l.row)) (seen_context l.context) (seen_rescuing l.rescuing (seen_state l.state)))
+    settled_rescuing (with_clauses the (known_rescues the (drop l.each-index l.row)) (seen_context l.context) (seen_rescuing l.so_far (seen_state l.state)))
     ≡ settled_rescuing (with_clauses the (known_rescues the l.row) (seen_context l.context) (seen_rescuing l.fn.so_far (seen_state l.fn.state)))

@@ -1,6 +1,6 @@
-use Rattle.std.proofs.Common.{[], map, ap, ◌∙◌}
+use Rattle.std.proofs.Common.{[], map, refl, ap, ◌∙◌}
 use Rattle.std.proofs.lemmas.Result.{IfOk-weaker}
-use Rattle.srb_judgement.specs.Guards.{handled}
+use Rattle.srb_judgement.specs.Guards.{ensured_names, handled}
 use Rattle.srb_judgement.specs.Judgements.{part_of}
 use Rattle.srb_judgement.specs.Kept.{seen_context}
 use Rattle.srb_judgement.specs.States.{judged}
@@ -15,13 +15,13 @@ returns g c =
     let part = part_of the c.args.body.now in
     let around = seen_context c.args.context.now in
     let before = seen_state c.args.state.now in
-    IfOk-weaker c.end_ensure.result _ _
-    (λ ty h r q. ensure_is the part around r c.args.ends.ty (seen_environment c.args.ends.environment) before
+    IfOk-weaker c.leave_ensure.result _ _
+    (λ ty h r q. ensure_is the part around r c.args.ends.now.ty (seen_environment c.args.ends.now.environment) before
     (record before { environment = handled the (seen_environment c.args.entry.now) before.assigned; breaks = []; nexts = [] })
-    c.as_slice.result.now (map seen_left c.in_ok-jumps.jumps.breaks) (map seen_left c.in_ok-jumps.jumps.nexts)
-    (judged c.in_ok-judge.field-0 (seen_state c.judge.new.state)) (judged ty (seen_state c.end_ensure.new.state))
-    q (c.as_slice.ensures ∙ c.in_ok-names.ensures)
+    (ensured_names the around part.it) (map seen_left c.in_ok-jumps.jumps.breaks) (map seen_left c.in_ok-jumps.jumps.nexts)
+    (judged c.in_ok-judge.field-0 (seen_state c.judge.new.state)) (judged ty (seen_state c.leave_ensure.new.state))
+    q refl
     (ap (λ (x : jumps.Jumps). map seen_left x.breaks) c.in_ok-jumps.ensures.jumps)
     (ap (λ (x : jumps.Jumps). map seen_left x.nexts) c.in_ok-jumps.ensures.jumps)
     (c.in_ok-judge.ensures ∙ ap (λ s. part.it.judge around s) c.in_ok-jumps.ensures.state) h)
-    c.end_ensure.ensures
+    c.leave_ensure.ensures

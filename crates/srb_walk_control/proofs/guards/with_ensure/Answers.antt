@@ -11,7 +11,7 @@ use Rattle.srb_walk_control.proofs.guards.with_ensure.Goals as goal
 pub returns : goal.returns
 returns g c =
     let the = g.L.Language.the c.args.language.now in
-    let so_far = seen_rescuing c.args.so_far (seen_state c.args.state.now) in
+    let so_far = seen_rescuing c.args.so_far.now (seen_state c.args.state.now) in
     IfOk-weaker c.ensure_body.result _ _
     (λ ty h. ensured_is the (part_of the c.args.body.now) (seen_context c.args.context.now) (seen_context c.of.result.now) (seen_environment c.args.entry.now)
     so_far (judged ty (seen_state c.ensure_body.new.state))
