@@ -32,3 +32,18 @@ edited_job-requires-clause-others c = λ f bytes differs is.
     let docs = c.in_ok-enact.ensures.done ∙ ap (planned plan) c.in_ok-after.ensures in
     subst (IsJobWith f bytes) (sym job)
     (c.requires.others f bytes (λ same. differs (same ∙ sym c.in_ok-path.ensures)) (sym (ap (λ (d : Documents). bytes_at f d.project) docs) ∙ is))
+
+pub returns-clause-edited : goal.returns-clause-edited
+returns-clause-edited c = λ order known facts.
+    let plan = c.args.plan in
+    let job : c.match-file.job ≡ c.args.job.now = elim c.match-file.branch [
+      | in-Some+else-is_some w ↦ w.job-is ∙ elim w.else-is_some.branch [
+        | else-is_some-via-then-is_some+in_ok-copied+else-put v ↦ v.job-is ∙ v.put.ensures.absent v.if-put.false
+        | else-is_some-via-else-is_some v ↦ v.job-is
+      ]
+      | in_default w ↦ w.job-is
+    ] in
+    let docs = c.in_ok-enact.ensures.done ∙ ap (planned plan) c.in_ok-after.ensures in
+    subst (λ (d : Documents). IsJobOf d.project c.in_ok-job.field-0) docs
+    (c.in_ok-job.ensures c.args.docs.now.project (subst (IsJobOf c.args.docs.now.project) (sym job) known)
+    (ap (λ (d : Documents). project_facts d.project) docs ∙ facts))
