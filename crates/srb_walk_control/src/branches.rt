@@ -144,6 +144,7 @@ pub fn taken<W: Walk, L: Language>(
 }
 
 /// Judges a condition of a row of branches, and the branch where it holds.
+#[inline(never)]
 fn one_branch<W: Walk, L: Language>(
     alloc: Global,
     walk: &W,
