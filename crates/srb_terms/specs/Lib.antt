@@ -4,5 +4,6 @@ pub mod NameSets
 pub mod PathMaps
 pub mod formers
 pub mod Projects
+pub mod Spellings
 pub mod Statuses
 pub mod Worlds

@@ -21,6 +21,7 @@ mod param_kind;
 mod path_map;
 mod project;
 mod span;
+mod spelling;
 mod steps;
 #[cfg(test)]
 mod tests;

@@ -7,29 +7,28 @@ ghost use Rattle.std.specs.Hash as fed;
 ghost use Rattle.std.specs.Ordering.{nat_cmp};
 ghost use Rattle.std.specs.Str.{IsUtf8};
 
+use crate::spelling::Spelling;
 use crate::{NoMemory, Words};
 use std::alloc::Global;
 use std::cmp::Ordering;
 use std::fmt;
 use std::hash::{Hash, Hasher};
 use std::marker::Model;
-use std::sync::ArcStr;
 
-/// A name, as of a class, a method or a file. A contract sees it as its bytes, which are UTF-8.
+/// A name, as of a class, a method or a file. A contract sees it as its bytes, which are UTF-8. Up to 14 bytes lie in place.
 ///
 /// Two names are equal exactly where their bytes are, and they are ordered by their bytes.
 #[derive(Drop)]
 pub struct Name {
-    text: ArcStr,
+    text: Spelling,
 }
 
 impl Model for Name {
-    ghost use Rattle.std.specs.Arc.{arc_str_bytes};
     ghost use Rattle.std.specs.Prelude.{ℕ, List};
 
     ghost Value = { List ℕ };
 
-    ghost view = { λ n. arc_str_bytes n.text };
+    ghost view = { λ n. n.text };
 }
 
 impl Name {
@@ -38,20 +37,20 @@ impl Name {
         ensures { IfOk result (λ n. n ≡ text.now) }
     {
         Ok(Name {
-            text: ArcStr::from_str(alloc, text)?,
+            text: Spelling::from_str(alloc, text)?,
         })
     }
 
-    /// The name with this text, without a copy of its bytes.
+    /// The name with this text. Its bytes stay where they are, unless there are at most 14.
     pub fn from_string(text: String) -> Result<Name, NoMemory>
         ensures { IfOk result (λ n. n ≡ string_bytes text) }
     {
         Ok(Name {
-            text: ArcStr::from_string(text)?,
+            text: Spelling::from_string(text)?,
         })
     }
 
-    /// The name that is spelled as `words`, without a copy of its bytes.
+    /// The name that is spelled as `words`. It takes no memory, and fails only at 2^63 copies.
     pub fn from_words(words: &Words) -> Result<Name, NoMemory>
         ensures { IfOk result (λ n. n ≡ words.now) }
     {
@@ -59,12 +58,12 @@ impl Name {
         Ok(Name { text })
     }
 
-    /// The words that spell the name, without a copy of its bytes.
+    /// The words that spell the name. It takes no memory, and fails only at 2^63 copies.
     pub fn to_words(&self) -> Result<Words, NoMemory>
         ensures { IfOk result (λ w. w ≡ self.now) }
     {
         Ok(Words {
-            text: self.text.clone()?,
+            text: self.text.copied()?,
         })
     }
 
@@ -87,22 +86,22 @@ impl Name {
     pub fn len(&self) -> usize
         ensures { result ≡ length self.now }
     {
-        self.text.len()
+        self.text.as_str().len()
     }
 
     /// Whether there is no byte.
     pub fn is_empty(&self) -> bool
         ensures { IsTrue result ↔ (self.now ≡ []) }
     {
-        self.text.is_empty()
+        self.text.as_str().is_empty()
     }
 
-    /// A copy that shares the bytes. It takes no memory, and fails only at 2^63 copies.
+    /// A copy, which shares the bytes where there are more than 14. It takes no memory, and fails only at 2^63 copies.
     pub fn copied(&self) -> Result<Name, NoMemory>
         ensures { IfOk result (λ n. n ≡ self.now) }
     {
         Ok(Name {
-            text: self.text.clone()?,
+            text: self.text.copied()?,
         })
     }
 

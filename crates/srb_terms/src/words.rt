@@ -8,28 +8,27 @@ ghost use Rattle.std.specs.Ordering.{nat_cmp};
 ghost use Rattle.std.specs.Str.{IsUtf8};
 
 use crate::NoMemory;
+use crate::spelling::Spelling;
 use std::alloc::Global;
 use std::cmp::Ordering;
 use std::fmt;
 use std::hash::{Hash, Hasher};
 use std::marker::Model;
-use std::sync::ArcStr;
 
-/// A text, as a message or the content of a literal. A contract sees it as its bytes, which are UTF-8.
+/// A text, as a message or the content of a literal. A contract sees it as its bytes, which are UTF-8. Up to 14 bytes lie in place.
 ///
 /// Two texts are equal exactly where their bytes are, and they are ordered by their bytes.
 #[derive(Drop)]
 pub struct Words {
-    pub(crate) text: ArcStr,
+    pub(crate) text: Spelling,
 }
 
 impl Model for Words {
-    ghost use Rattle.std.specs.Arc.{arc_str_bytes};
     ghost use Rattle.std.specs.Prelude.{ℕ, List};
 
     ghost Value = { List ℕ };
 
-    ghost view = { λ w. arc_str_bytes w.text };
+    ghost view = { λ w. w.text };
 }
 
 impl Words {
@@ -38,16 +37,16 @@ impl Words {
         ensures { IfOk result (λ w. w ≡ text.now) }
     {
         Ok(Words {
-            text: ArcStr::from_str(alloc, text)?,
+            text: Spelling::from_str(alloc, text)?,
         })
     }
 
-    /// The text of `text`, without a copy of its bytes.
+    /// The text of `text`. Its bytes stay where they are, unless there are at most 14.
     pub fn from_string(text: String) -> Result<Words, NoMemory>
         ensures { IfOk result (λ w. w ≡ string_bytes text) }
     {
         Ok(Words {
-            text: ArcStr::from_string(text)?,
+            text: Spelling::from_string(text)?,
         })
     }
 
@@ -70,22 +69,22 @@ impl Words {
     pub fn len(&self) -> usize
         ensures { result ≡ length self.now }
     {
-        self.text.len()
+        self.text.as_str().len()
     }
 
     /// Whether there is no byte.
     pub fn is_empty(&self) -> bool
         ensures { IsTrue result ↔ (self.now ≡ []) }
     {
-        self.text.is_empty()
+        self.text.as_str().is_empty()
     }
 
-    /// A copy that shares the bytes. It takes no memory, and fails only at 2^63 copies.
+    /// A copy, which shares the bytes where there are more than 14. It takes no memory, and fails only at 2^63 copies.
     pub fn copied(&self) -> Result<Words, NoMemory>
         ensures { IfOk result (λ w. w ≡ self.now) }
     {
         Ok(Words {
-            text: self.text.clone()?,
+            text: self.text.copied()?,
         })
     }
 
