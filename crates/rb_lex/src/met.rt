@@ -1,4 +1,4 @@
-//! Words that share their bytes with equal ones that were met before.
+//! Long words that share their bytes with equal ones that were met before.
 
 ghost use Rattle.std.specs.Prelude.{◌≡◌, IfOk};
 
@@ -8,7 +8,8 @@ use std::alloc::Global;
 /// How many words are kept.
 const KEPT: usize = 256;
 
-/// Words that were met lately, each at a slot that its bytes give. A file names few things many times, so most of its words share their bytes.
+/// Long words that were met lately, each at a slot that its bytes give. A file names few things many times, so most of its long words share
+/// their bytes. Short ones lie in place.
 #[derive(Drop)]
 pub struct Met {
     slots: Vec<Option<Words>>,
@@ -33,10 +34,13 @@ impl Met {
         Ok(Met { slots })
     }
 
-    /// The words of this text, which share their bytes where equal ones were met lately.
+    /// The words of this text. Long ones share their bytes where equal ones were met lately.
     pub fn words(&mut self, alloc: Global, text: &str) -> Result<Words, NoMemory>
         ensures { IfOk result (λ w. w ≡ text.now) }
     {
+        if Words::lie_in_place(text) {
+            return Words::from_str(alloc, text);
+        }
         let at = mixed(text.as_bytes()) % KEPT;
         if let Some(Some(words)) = self.slots.get(at) {
             if words.as_str() == text {

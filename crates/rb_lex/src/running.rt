@@ -12,6 +12,9 @@ use crate::state::State;
 use rb_tree::token::Token;
 use std::alloc::Global;
 
+/// How many bytes a token has at least, in most texts: so many tokens have room from the start.
+const BYTES_OF_A_TOKEN: usize = 4;
+
 /// The tokens of the bytes of a text.
 pub fn lex_bytes(alloc: Global, text: &[u8]) -> Result<Vec<Token>, LexEnd>
     requires small { length text.now ≤ MOST_BYTES }
@@ -19,7 +22,7 @@ pub fn lex_bytes(alloc: Global, text: &[u8]) -> Result<Vec<Token>, LexEnd>
     ensures { Gives (λ v. v.items) result (lexed text.now) }
 {
     let mut met = Met::new(alloc)?;
-    let mut state = State::new(alloc);
+    let mut state = State::new(alloc, text.len() / BYTES_OF_A_TOKEN)?;
     let mut at: u32 = 0;
     let mut rest = text;
     while !rest.is_empty() {

@@ -147,11 +147,12 @@ fn continued(goes: bool, last: Before, lexeme: Lexeme) -> Lexeme
 }
 
 impl State {
-    pub fn new(alloc: Global) -> State
-        ensures { result ≡ spec.START }
+    /// The state at the start of a text, with room for so many tokens.
+    pub fn new(alloc: Global, room: usize) -> Result<State, NoMemory>
+        ensures { IfOk result (λ s. s ≡ spec.START) }
     {
-        State {
-            tokens: Items::new(alloc),
+        Ok(State {
+            tokens: Items::from_vec(Vec::with_capacity(alloc, room)?),
             mark: 0,
             nesting: Items::new(alloc),
             string: None,
@@ -163,7 +164,7 @@ impl State {
             last: Before::Plain,
             keeps: false,
             has_bars: false,
-        }
+        })
     }
 
     fn push(&mut self, kind: TokenKind, start: u32, end: u32) -> Result<(), LexEnd>

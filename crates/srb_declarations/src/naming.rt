@@ -75,11 +75,24 @@ fn listed(alloc: Global, names: Items<Name>) -> Result<Names, NoMemory>
     Ok(list)
 }
 
+/// The names of a path. That of one name makes no list in between.
+fn path_names<'a>(alloc: Global, names: PathNames<'a>) -> Result<Names, NoMemory>
+    ensures { IfOk result (λ list. list ≡ map spec.placed_name (seen_names names.entry)) }
+{
+    match names.split() {
+        None => Ok(Names::new()),
+        Some((name, _, rest)) => match rest.split() {
+            None => Names::new().pushed(alloc, name.copied()?),
+            Some(_) => listed(alloc, names_of(alloc, names)?),
+        },
+    }
+}
+
 /// A path as a list of names: one that begins with `::` has an empty first name.
 pub fn written<'a>(alloc: Global, top: bool, names: PathNames<'a>) -> Result<Names, NoMemory>
     ensures { IfOk result (λ list. list ≡ spec.written top (seen_names names.entry)) }
 {
-    let list = listed(alloc, names_of(alloc, names)?)?;
+    let list = path_names(alloc, names)?;
     if top {
         list.pushed(alloc, Name::from_str(alloc, "")?)
     } else {

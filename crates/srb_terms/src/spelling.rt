@@ -1,5 +1,4 @@
-ghost use Rattle.std.specs.Prelude.{◌≡◌, ◌+◌, ◌≤◌, ◌++◌, ℕ, List, length, take, IfOk, string_bytes};
-ghost use Rattle.std.specs.Str.{IsUtf8};
+ghost use Rattle.std.specs.Prelude.{◌≡◌, ◌≤◌, ◌↔◌, ℕ, List, length, IsTrue, IfOk, string_bytes};
 ghost use Rattle.srb_terms.specs.Spellings.{IsHeld, held};
 
 use crate::NoMemory;
@@ -10,6 +9,13 @@ use std::sync::ArcStr;
 
 /// The most bytes that lie in place.
 const SHORT: usize = 14;
+
+/// Whether the bytes of a text lie in place.
+pub(crate) fn is_short(text: &str) -> bool
+    ensures { IsTrue result ↔ (length text.now ≤ 14) }
+{
+    text.len() <= SHORT
+}
 
 /// The bytes of a name or a text, which are UTF-8: up to 14 lie in place, more on the heap, where copies share them.
 pub(crate) struct Spelling {
@@ -38,7 +44,7 @@ impl Spelling {
     pub(crate) fn from_str(alloc: Global, text: &str) -> Result<Spelling, NoMemory>
         ensures { IfOk result (λ s. s ≡ text.now) }
     {
-        if text.len() <= SHORT {
+        if is_short(text) {
             Ok(Spelling::short(text))
         } else {
             Ok(Spelling {
@@ -51,7 +57,7 @@ impl Spelling {
     pub(crate) fn from_string(text: String) -> Result<Spelling, NoMemory>
         ensures { IfOk result (λ s. s ≡ string_bytes text) }
     {
-        if text.len() <= SHORT {
+        if is_short(text.as_str()) {
             Ok(Spelling::short(text.as_str()))
         } else {
             Ok(Spelling {

@@ -1,4 +1,4 @@
-ghost use Rattle.std.specs.Prelude.{◌≡◌, ◌↔◌, [], length, nat_eq, refl, IsTrue, IfOk, Some, string_bytes};
+ghost use Rattle.std.specs.Prelude.{◌≡◌, ◌≤◌, ◌↔◌, [], length, nat_eq, refl, IsTrue, IfOk, Some, string_bytes};
 ghost use Rattle.std.proofs.Common.{rules};
 ghost use Rattle.std.specs.Cmp.{partial_equiv_from_equiv};
 ghost use Rattle.std.specs.Cmp.Lexicographic.{pointwise, slice_cmp, nat_list_eq_equiv, nat_list_cmp_total, texts_ties, texts_po};
@@ -8,7 +8,7 @@ ghost use Rattle.std.specs.Ordering.{nat_cmp};
 ghost use Rattle.std.specs.Str.{IsUtf8};
 
 use crate::NoMemory;
-use crate::spelling::Spelling;
+use crate::spelling::{Spelling, is_short};
 use std::alloc::Global;
 use std::cmp::Ordering;
 use std::fmt;
@@ -39,6 +39,13 @@ impl Words {
         Ok(Words {
             text: Spelling::from_str(alloc, text)?,
         })
+    }
+
+    /// Whether the bytes of words of this text lie in place, so that their copies share nothing.
+    pub fn lie_in_place(text: &str) -> bool
+        ensures { IsTrue result ↔ (length text.now ≤ 14) }
+    {
+        is_short(text)
     }
 
     /// The text of `text`. Its bytes stay where they are, unless there are at most 14.
