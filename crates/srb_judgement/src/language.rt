@@ -10,12 +10,12 @@ use std::alloc::Global;
 
 /// What the judgement asks. Each answer is that of a field of the definitions' language, which `the` names.
 pub trait Language {
-    ghost use Rattle.std.specs.Prelude.{◌≡◌, IfOk};
+    ghost use Rattle.std.specs.Prelude.{◌≡◌, not, IfOk};
     ghost use Rattle.std.specs.Option.{option_map, option_copied};
     ghost use Rattle.srb_terms.specs.declared.outline.Outline.{Outline};
     ghost use Rattle.srb_terms.specs.declared.ty.Ty.{Ty};
     ghost use Rattle.srb_judgement.specs.Languages.{Language as Asked};
-    ghost use Rattle.srb_judgement.specs.Types.{nil_type, false_type, boolean_type};
+    ghost use Rattle.srb_judgement.specs.Types.{nil_type, false_type, boolean_type, truthy, falsy};
     ghost use Rattle.srb_judgement.specs.Views.{class_name, text_in, seen_answer, seen_meaning, seen_sent, seen_signature};
 
     // The language of the definitions.
@@ -48,6 +48,14 @@ pub trait Language {
     /// Whether the type is `T.noreturn`.
     fn is_never(&self, t: &Ty) -> bool
         ensures { result ≡ (the self.now).is_never t.now };
+
+    /// Whether a value of the type can be other than `nil` and `false`: whether its `truthy` has a part.
+    fn can_be_truthy(&self, alloc: Global, t: &Ty) -> Result<bool, NoMemory>
+        ensures { IfOk result (λ b. b ≡ not ((the self.now).is_never (truthy (the self.now) t.now))) };
+
+    /// Whether a value of the type can be `nil` or `false`: whether its `falsy` has a part.
+    fn can_be_falsy(&self, alloc: Global, t: &Ty) -> Result<bool, NoMemory>
+        ensures { IfOk result (λ b. b ≡ not ((the self.now).is_never (falsy (the self.now) t.now))) };
 
     /// The instances of a class or module, by its full name.
     fn instance(&self, alloc: Global, name: &Name) -> Result<Ty, NoMemory>

@@ -12,7 +12,6 @@ use crate::errors::unreachable;
 use crate::language::Language;
 use crate::states::State;
 use crate::tested::Tested;
-use crate::types::{falsy, truthy};
 use srb_terms::{NoMemory, Span, Ty};
 use std::alloc::Global;
 
@@ -94,11 +93,11 @@ pub fn excluding<L: Language>(
         truth,
         falsehood,
     } = tested;
-    let no_truth = language.is_never(&truthy(alloc, language, &ty)?);
-    let no_falsehood = language.is_never(&falsy(alloc, language, &ty)?);
+    let can_hold = language.can_be_truthy(alloc, &ty)?;
+    let can_fail = language.can_be_falsy(alloc, &ty)?;
     Ok(Tested {
         ty,
-        truth: truth.ended_if(no_truth),
-        falsehood: falsehood.ended_if(no_falsehood),
+        truth: truth.ended_if(!can_hold),
+        falsehood: falsehood.ended_if(!can_fail),
     })
 }

@@ -2,7 +2,7 @@
 
 use crate::calls::answered;
 use crate::names::{instance_variable, is_exception, meaning};
-use crate::ready::{Ready, built_in, make_ready};
+use crate::ready::{Ready, built_in, can_be_falsy, can_be_truthy, make_ready};
 use crate::signatures::signature;
 use crate::types::{instance, is_never};
 use rb_outline::outline;
@@ -90,6 +90,14 @@ impl<'w> Language for ProjectLanguage<'w> {
         is_never(t)
     }
 
+    fn can_be_truthy(&self, alloc: Global, t: &Ty) -> Result<bool, NoMemory> {
+        can_be_truthy(alloc, self.world, &self.ready, t)
+    }
+
+    fn can_be_falsy(&self, alloc: Global, t: &Ty) -> Result<bool, NoMemory> {
+        can_be_falsy(alloc, self.world, &self.ready, t)
+    }
+
     fn instance(&self, alloc: Global, name: &Name) -> Result<Ty, NoMemory> {
         instance(alloc, name)
     }
@@ -99,7 +107,7 @@ impl<'w> Language for ProjectLanguage<'w> {
     }
 
     fn boolean(&self) -> &Ty {
-        &self.ready.boolean
+        &self.ready.boolean.ty
     }
 
     fn nil_or_false(&self) -> &Ty {

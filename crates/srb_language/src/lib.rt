@@ -9,6 +9,7 @@ mod calls;
 mod language;
 mod names;
 mod ready;
+mod same;
 mod signatures;
 mod types;
 
