@@ -1,9 +1,11 @@
 -- The ends of branches, and of the clauses of a guard.
-use Rattle.std.specs.Prelude.{◌≡◌, refl, List, ℕ}
+use Rattle.std.specs.Prelude.{◌≡◌, refl, List, [], None, ℕ}
+use Rattle.rb_tree.specs.declared.syntax.Guarded.{Guarded}
 use Rattle.srb_judgement.specs.Branches.{Branching, with_branch, all_branches}
 use Rattle.srb_judgement.specs.Environments.{Environment, Dead, joined, is_live}
-use Rattle.srb_judgement.specs.Guards.{Rescuing, with_clause_end, with_first}
+use Rattle.srb_judgement.specs.Guards.{Rescuing, left_guard, with_clause_end, with_first}
 use Rattle.srb_judgement.specs.Languages.{Language}
+use Rattle.srb_judgement.specs.Parts.{Part}
 use Rattle.srb_judgement.specs.States.{State, Judged, judged, moved}
 use Rattle.srb_judgement.specs.Types.{type_if}
 
@@ -54,3 +56,13 @@ module _ {T X : Type 0} (L : Language T X) where
   pub first_ends_with : (r : Rescuing T) (e : Environment T) (ty : T) →
       clause_ends (with_first L r e ty) ≡ with_first_end (clause_ends r) e ty
   first_ends_with r e ty = refl
+
+  -- ---- a guard without `rescue` clauses, `else` and `ensure`
+
+  abbrev pub bare : Part T X → Guarded (Part T X)
+  bare body = record { body = body; rescues = []; otherwise = None; ensure = None }
+
+  -- the whole, by the state before it and its body: the end of the body is the only one
+  abbrev pub left_bare : State T → Judged T → Judged T
+  left_bare before first =
+      left_guard L before (all_ends (with_first_end no_ends first.state.environment first.ty) first.state)

@@ -13,6 +13,7 @@ use Rattle.srb_judgement.specs.declared.blocks.BlockJudged as block_judged
 use Rattle.srb_judgement.specs.declared.ends.Ends as ends
 use Rattle.srb_judgement.specs.declared.environments.Environment as environment
 use Rattle.srb_judgement.specs.declared.environments.Environment.TheVariants as place
+use Rattle.srb_judgement.specs.declared.guards.Before as before
 use Rattle.srb_judgement.specs.declared.meaning.Meaning as meaning
 use Rattle.srb_judgement.specs.declared.meaning.Meaning.TheVariants as meant
 use Rattle.srb_judgement.specs.declared.says.Says as says
@@ -172,6 +173,16 @@ seen_aside a = record {
   breaks = map seen_left a.jumps.breaks;
   nexts = map seen_left a.jumps.nexts;
   assigned = map seen_row a.assigned;
+  errors = [];
+}
+
+-- the jumps and assignments of a state alone
+abbrev pub seen_before : before.Before → State Ty
+seen_before b = record {
+  environment = Silent;
+  breaks = map seen_left b.jumps.breaks;
+  nexts = map seen_left b.jumps.nexts;
+  assigned = map seen_row b.assigned;
   errors = [];
 }
 

@@ -2,16 +2,18 @@
 
 ghost use Rattle.std.specs.Prelude.{◌≡◌, [], ◌++◌, map, Some, IfOk, OnOk};
 ghost use Rattle.std.specs.Option.{option_copied};
+ghost use Rattle.srb_judgement.specs.Ends as ends_spec;
+ghost use Rattle.srb_judgement.specs.Environments.{Silent};
 ghost use Rattle.srb_judgement.specs.Guards as spec;
 ghost use Rattle.srb_judgement.specs.Kept.{AtEach, sees};
 ghost use Rattle.srb_judgement.specs.States.{judged};
 ghost use Rattle.srb_judgement.specs.Steps.{added_if, passed};
-ghost use Rattle.srb_judgement.specs.Views.{seen_aside, seen_ends, seen_environment, seen_left, seen_meaning, seen_row, seen_rows, seen_spelling, seen_state};
+ghost use Rattle.srb_judgement.specs.Views.{seen_aside, seen_before, seen_ends, seen_environment, seen_left, seen_meaning, seen_row, seen_rows, seen_spelling, seen_state};
 
 use crate::blocks::Aside;
 use crate::built_in::BuiltIn;
 use crate::contexts::Context;
-use crate::ends::Ends;
+use crate::ends::{Ends, all_ends, no_ends, with_first_end};
 use crate::environments::{Environment, Rows, copied_rows, variable_type, with_type};
 use crate::language::Language;
 use crate::meaning::Meaning;
@@ -21,6 +23,13 @@ use crate::states::{Jumps, Left, Row, State, no_jumps};
 use rb_tree::syntax::PlacedName;
 use srb_terms::{Items, Name, Names, NoMemory, Ty};
 use std::alloc::Global;
+
+/// The jumps and assignments before a guard.
+#[derive(Drop)]
+pub struct Before {
+    pub jumps: Jumps,
+    pub assigned: Items<Row>,
+}
 
 // ---- the environment in which a clause begins
 
@@ -356,6 +365,29 @@ pub fn end_ensure<L: Language>(
     }
 }
 
+// ---- the whole
+
+/// Puts items after others.
+fn put_after<T: Drop>(front: Items<T>, items: &mut Items<T>) -> Result<(), NoMemory>
+    ensures { OnOk result (items.new ≡ front ++ items.old) }
+{
+    let own = std::mem::replace(items, front);
+    items.append(own)
+}
+
+/// Puts the jumps and assignments of a guard after those before it.
+fn put_back(before: Before, state: &mut State) -> Result<(), NoMemory>
+    ensures { OnOk result (seen_state state.new ≡ record (seen_state state.old) { breaks = map seen_left before.jumps.breaks ++ (seen_state state.old).breaks; nexts = map seen_left before.jumps.nexts ++ (seen_state state.old).nexts; assigned = map seen_row before.assigned ++ (seen_state state.old).assigned }) }
+{
+    let Before {
+        jumps: Jumps { breaks, nexts },
+        assigned,
+    } = before;
+    put_after(breaks, &mut state.jumps.breaks)?;
+    put_after(nexts, &mut state.jumps.nexts)?;
+    put_after(assigned, &mut state.assigned)
+}
+
 /// Leaves a guard: its jumps and assignments stand after those before it.
 pub fn leave_guard<L: Language>(
     language: &L,
@@ -367,18 +399,48 @@ pub fn leave_guard<L: Language>(
 {
     let Aside {
         environment: _,
-        jumps: Jumps { breaks, nexts },
+        jumps,
         assigned,
     } = aside;
-    put_after(breaks, &mut state.jumps.breaks)?;
-    put_after(nexts, &mut state.jumps.nexts)?;
-    put_after(assigned, &mut state.assigned)
+    put_back(Before { jumps, assigned }, state)
 }
 
-/// Puts items after others.
-fn put_after<T: Drop>(front: Items<T>, items: &mut Items<T>) -> Result<(), NoMemory>
-    ensures { OnOk result (items.new ≡ front ++ items.old) }
+/// Begins a guard without `rescue` clauses, `else` and `ensure`. The answer is the jumps and assignments before it.
+pub fn begin_bare(alloc: Global, state: &mut State) -> Before
+    ensures before { seen_before result ≡ record (seen_state state.old) { environment = Silent; errors = [] } }
+    ensures state { seen_state state.new ≡ record (seen_state state.old) { breaks = []; nexts = []; assigned = [] } }
 {
-    let own = std::mem::replace(items, front);
-    items.append(own)
+    Before {
+        jumps: std::mem::replace(&mut state.jumps, no_jumps(alloc)),
+        assigned: std::mem::replace(&mut state.assigned, Items::new(alloc)),
+    }
+}
+
+/// The type of a guard whose body has this type and is its only end.
+fn only_end<L: Language>(
+    alloc: Global,
+    language: &L,
+    first: Ty,
+    state: &mut State,
+) -> Result<Ty, NoMemory>
+    ensures { IfOk result (λ ty. judged ty (seen_state state.new) ≡ ends_spec.all_ends (L.the language.now) (ends_spec.with_first_end (L.the language.now) (ends_spec.no_ends (L.the language.now)) (seen_state state.old).environment first) (seen_state state.old)) }
+{
+    let after = state.take_environment();
+    let ends = with_first_end(alloc, language, no_ends(language), after, first)?;
+    Ok(all_ends(language, ends, state))
+}
+
+/// Leaves a guard without `rescue` clauses, `else` and `ensure`, whose body has this type. The answer is the type of the whole.
+pub fn leave_bare<L: Language>(
+    alloc: Global,
+    language: &L,
+    before: Before,
+    first: Ty,
+    state: &mut State,
+) -> Result<Ty, NoMemory>
+    ensures { IfOk result (λ ty. judged ty (seen_state state.new) ≡ ends_spec.left_bare (L.the language.now) (seen_before before) (judged first (seen_state state.old))) }
+{
+    let ty = only_end(alloc, language, first, state)?;
+    put_back(before, state)?;
+    Ok(ty)
 }

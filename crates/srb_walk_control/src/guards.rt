@@ -7,7 +7,8 @@ ghost use Rattle.srb_judgement.specs.Kept.{seen_context};
 ghost use Rattle.srb_judgement.specs.Sequences.{all_declared};
 ghost use Rattle.srb_judgement.specs.States.{judged, moved, seeing};
 ghost use Rattle.srb_judgement.specs.Variables.{part_operand};
-ghost use Rattle.srb_judgement.specs.Views.{seen_aside, seen_ends, seen_environment, seen_left, seen_state};
+ghost use Rattle.srb_judgement.specs.Views.{seen_aside, seen_before, seen_ends, seen_environment, seen_left, seen_state};
+ghost use Rattle.srb_walk_control.specs.Bare as bare_spec;
 ghost use Rattle.srb_walk_control.specs.Passed as passed;
 ghost use Rattle.srb_walk.specs.Assigned.{names_of};
 ghost use Rattle.srb_walk.specs.Judging as spec;
@@ -21,7 +22,8 @@ use srb_judgement::contexts::Context;
 use srb_judgement::ends::{Ends, no_ends};
 use srb_judgement::environments::Environment;
 use srb_judgement::guards::{
-    begin_ensure, catch, caught_type, end_ensure, handled, leave_guard, names_ensured,
+    Before, begin_bare, begin_ensure, catch, caught_type, end_ensure, handled, leave_bare,
+    leave_guard, names_ensured,
 };
 use srb_judgement::language::Language;
 use srb_judgement::states::{Jumps, State, no_jumps};
@@ -529,8 +531,9 @@ fn leave<L: Language>(
     leave_guard(language, aside, ty, state)
 }
 
-/// Judges a body with its `rescue` clauses, `else` and `ensure`.
-pub fn guard<W: Walk, L: Language>(
+/// Judges a body with `rescue` clauses, an `else` or an `ensure`. It is never inlined: what it holds would stand in the frame of each guard.
+#[inline(never)]
+fn with_parts<W: Walk, L: Language>(
     alloc: Global,
     walk: &W,
     language: &L,
@@ -558,4 +561,63 @@ pub fn guard<W: Walk, L: Language>(
     )?;
     leave(language, aside, &ty, state)?;
     Ok(ty)
+}
+
+/// Whether a body has no `rescue` clause, no `else` and no `ensure`.
+fn is_bare(guarded: &Guarded<Tree>) -> bool
+    ensures { result ≡ bare_spec.is_bare guarded.now }
+{
+    match guarded.rescues.as_slice() {
+        [] => guarded.otherwise.is_none() && guarded.ensure.is_none(),
+        [_, ..] => false,
+    }
+}
+
+/// Leaves a guard that is its body alone, which has this type.
+#[inline(never)]
+fn leave_alone<L: Language>(
+    alloc: Global,
+    language: &L,
+    before: Before,
+    first: Ty,
+    state: &mut State,
+) -> Result<Ty, NoMemory>
+    ensures { IfOk result (λ ty. judged ty (seen_state state.new) ≡ ends_spec.left_bare (L.the language.now) (seen_before before) (judged first (seen_state state.old))) }
+{
+    leave_bare(alloc, language, before, first, state)
+}
+
+/// Judges a body that has no `rescue` clause, no `else` and no `ensure`, as that of nearly each method: the environment is never copied.
+#[inline(never)]
+fn alone<W: Walk, L: Language>(
+    alloc: Global,
+    walk: &W,
+    language: &L,
+    context: &Context,
+    state: &mut State,
+    body: &Tree,
+) -> Result<Ty, NoMemory>
+    ensures { IfOk result (λ ty. judged ty (seen_state state.new) ≡ guards_spec.guard_judged (L.the language.now) (ends_spec.bare (L.the language.now) (known.part_in (L.the language.now) body.now)) (seen_context context.now) (seen_state state.old)) }
+{
+    let before = begin_bare(alloc, state);
+    let first = walk.judge(alloc, language, context, state, body)?;
+    leave_alone(alloc, language, before, first, state)
+}
+
+/// Judges a body with its `rescue` clauses, `else` and `ensure`.
+pub fn guard<W: Walk, L: Language>(
+    alloc: Global,
+    walk: &W,
+    language: &L,
+    context: &Context,
+    state: &mut State,
+    guarded: &Guarded<Tree>,
+) -> Result<Ty, NoMemory>
+    ensures { IfOk result (λ ty. judged ty (seen_state state.new) ≡ guards_spec.guard_judged (L.the language.now) (known.known_guarded (L.the language.now) guarded.now) (seen_context context.now) (seen_state state.old)) }
+{
+    if is_bare(guarded) {
+        alone(alloc, walk, language, context, state, &guarded.body)
+    } else {
+        with_parts(alloc, walk, language, context, state, guarded)
+    }
 }

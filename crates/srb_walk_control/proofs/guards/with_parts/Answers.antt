@@ -5,7 +5,7 @@ use Rattle.srb_judgement.specs.States.{judged}
 use Rattle.srb_judgement.specs.Views.{seen_aside, seen_ends, seen_environment, seen_state}
 use Rattle.srb_walk.specs.Known.{known_guarded}
 use Rattle.srb_walk_control.proofs.Guarding.{guard_is}
-use Rattle.srb_walk_control.proofs.guards.guard.Goals as goal
+use Rattle.srb_walk_control.proofs.guards.with_parts.Goals as goal
 
 pub returns : goal.returns
 returns g c =
