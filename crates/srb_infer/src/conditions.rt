@@ -13,7 +13,9 @@ ghost use Rattle.srb_judgement.specs.Sequences as sequences;
 ghost use Rattle.srb_judgement.specs.Spellings.{chain_at};
 ghost use Rattle.srb_judgement.specs.Unreached as unreached;
 ghost use Rattle.srb_judgement.specs.Conditions as conditions;
-ghost use Rattle.srb_judgement.specs.Views.{seen_state, seen_tested, settled};
+ghost use Rattle.srb_judgement.specs.States.{State as Passed, judged};
+ghost use Rattle.srb_judgement.specs.Views.{seen_says, seen_state, seen_tested, settled};
+ghost use Rattle.srb_terms.specs.declared.ty.Ty.{Ty};
 ghost use Rattle.srb_walk.specs.Judging as spec;
 ghost use Rattle.srb_walk.specs.Known as known;
 ghost use Rattle.srb_walk.specs.Walking as walking;
@@ -26,9 +28,10 @@ use srb_judgement::language::Language;
 use srb_judgement::narrowing::saying;
 use srb_judgement::operators::{and_sides, exchanged, or_sides};
 use srb_judgement::reaching::{both_sides, excluding, not_tested};
+use srb_judgement::says::Says;
 use srb_judgement::states::State;
 use srb_judgement::tested::Tested;
-use srb_terms::{Boxed, Name, NoMemory, Span};
+use srb_terms::{Boxed, Name, NoMemory, Span, Ty};
 use srb_walk::around::after;
 use srb_walk::operators::{called, unary};
 use srb_walk::says::{command_says, name_says, operator_says, row_says, target_says};
@@ -38,6 +41,32 @@ use srb_walk_calls::calls::command;
 use srb_walk_calls::rows::chained;
 use srb_walk_control::sequences::body;
 use std::alloc::Global;
+
+/// Leaves out the side that the type of a condition excludes. It is never inlined: what it holds would stand in the frame of each condition.
+#[inline(never)]
+fn without_dead<L: Language>(
+    alloc: Global,
+    language: &L,
+    tested: Tested,
+) -> Result<Tested, NoMemory>
+    ensures { IfOk result (λ t. (s : Passed Ty) → seen_tested t s ≡ reaching_spec.excluding (L.the language.now) (seen_tested tested s)) }
+{
+    excluding(alloc, language, tested)
+}
+
+/// What was judged as a value of this type, and then what it says of each side. It is never inlined either.
+#[inline(never)]
+fn said<L: Language>(
+    alloc: Global,
+    language: &L,
+    says: &Says,
+    ty: Ty,
+    state: &mut State,
+) -> Result<Tested, NoMemory>
+    ensures { IfOk result (λ t. settled (seen_tested t (seen_state state.new)) ≡ settled (narrowing.saying (L.the language.now) (seen_says says.now) (judged ty (seen_state state.old)))) }
+{
+    saying(alloc, language, says, ty, state)
+}
 
 /// Judges a tree as a condition.
 #[tactic(auto, using(srb_walk::proofs::Judgings::test_is), unfolding(srb_walk::specs::Judging::test_by_life))]
@@ -104,7 +133,7 @@ fn test_excluding<W: Walk, L: Language>(
     ensures { IfOk result (λ t. settled (seen_tested t (seen_state state.new)) ≡ settled (reaching_spec.excluding (L.the language.now) (spec.tested_inside (L.the language.now) tree.now (seen_context context.now) (seen_state state.old)))) }
 {
     let tested = test_inside(alloc, walk, language, context, state, tree)?;
-    excluding(alloc, language, tested)
+    without_dead(alloc, language, tested)
 }
 
 /// Judges a body as a condition: that of its statement, if there is one alone.
@@ -185,6 +214,7 @@ pub fn or_test<W: Walk, L: Language>(
 }
 
 /// Judges a name as a condition.
+#[inline(never)]
 fn name_test<L: Language>(
     alloc: Global,
     language: &L,
@@ -197,7 +227,7 @@ fn name_test<L: Language>(
 {
     let says = name_says(language, context, name)?;
     let ty = named(alloc, language, context, state, name, span)?;
-    saying(alloc, language, &says, ty, state)
+    said(alloc, language, &says, ty, state)
 }
 
 /// Judges an assignment as a condition.
@@ -214,7 +244,7 @@ fn assigned_test<W: Walk, L: Language>(
 {
     let says = target_says(language, target)?;
     let ty = assign(alloc, walk, language, context, state, target, value)?;
-    saying(alloc, language, &says, ty, state)
+    said(alloc, language, &says, ty, state)
 }
 
 /// Judges an assignment with an operator as a condition.
@@ -236,7 +266,7 @@ fn operator_assigned_test<W: Walk, L: Language>(
     let ty = operator_assign(
         alloc, walk, language, context, state, target, operator, place, whole, value,
     )?;
-    saying(alloc, language, &says, ty, state)
+    said(alloc, language, &says, ty, state)
 }
 
 /// Judges `!a` as a condition.
@@ -362,7 +392,7 @@ fn operator_test<W: Walk, L: Language>(
     let ty = called(
         alloc, walk, language, context, state, operator, place, left, right,
     )?;
-    saying(alloc, language, &says, ty, state)
+    said(alloc, language, &says, ty, state)
 }
 
 /// Judges an operator between two operands as a condition.
@@ -406,7 +436,7 @@ fn chain_test<W: Walk, L: Language>(
     };
     let says = row_says(alloc, language, context, row)?;
     let ty = chained(alloc, walk, language, context, state, receiver, suffixes)?;
-    saying(alloc, language, &says, ty, state)
+    said(alloc, language, &says, ty, state)
 }
 
 /// Judges a command as a condition.
@@ -427,7 +457,7 @@ fn command_test<W: Walk, L: Language>(
     let ty = command(
         alloc, walk, language, context, state, callee, row, block, span,
     )?;
-    saying(alloc, language, &says, ty, state)
+    said(alloc, language, &says, ty, state)
 }
 
 /// Judges a tree of any other kind as a condition.

@@ -1,5 +1,6 @@
 mod examples;
 mod names;
 mod shared;
+mod spellings;
 mod tree;
 mod world;
