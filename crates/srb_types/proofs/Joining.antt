@@ -19,7 +19,7 @@ class_lies L p q c d is of =
     within-class true L p q c is ∙ holds-class (test_of (within true L) L (Ty-F.Class c)) q d of
 
 -- a list by its first element and those after it
-split : {A : Type 0} (xs : List A) (x : A) → 1 ≤ length xs → x ≡ get_or xs 0 x → xs ≡ x ∷ take (length xs - 1) (drop 1 xs)
+pub split : {A : Type 0} (xs : List A) (x : A) → 1 ≤ length xs → x ≡ get_or xs 0 x → xs ≡ x ∷ take (length xs - 1) (drop 1 xs)
 split [] x some is = absurd (omega (arith, some))
 split (y ∷ ys) x some is = ap (λ z. z ∷ ys) (sym is) ∙ ap (λ zs. x ∷ zs) (sym (take_rest (y ∷ ys) 1))
 

@@ -4,3 +4,4 @@ pub mod Filtering
 pub mod Meeting
 pub mod Naming
 pub mod Joining
+pub mod Gathering

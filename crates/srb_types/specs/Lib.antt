@@ -1,3 +1,4 @@
 pub mod Order
 pub mod Shown
 pub mod Normal
+pub mod Joined

@@ -2,6 +2,7 @@
 #![tactic(auto)]
 
 mod depth;
+mod joins;
 mod meets;
 mod names;
 mod order;
@@ -10,6 +11,7 @@ mod showing;
 mod unions;
 
 pub use depth::{array, hash};
+pub use joins::any_after;
 pub use meets::{all, meet};
 pub use showing::show;
 pub use unions::{any, without};

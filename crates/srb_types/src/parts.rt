@@ -130,8 +130,8 @@ pub(crate) fn lies_in_one(w: &World, p: &Ty, parts: &[Ty]) -> bool
     }
 }
 
-// Whether one of others lies in a part.
-fn has_inner(w: &World, p: &Ty, parts: &[Ty]) -> bool
+/// Whether one of others lies in a part.
+pub(crate) fn has_inner(w: &World, p: &Ty, parts: &[Ty]) -> bool
     ensures { result ≡ list_any (λ q. comparing.lies_in (lineage_at w.now) q p.now) parts.now }
 {
     'parts: for part in parts {
@@ -192,8 +192,13 @@ fn is_before_part(alloc: Global, t: &Words, part: &Ty) -> Result<bool, NoMemory>
     }
 }
 
-// The index at which a part with this text belongs: that after the last part whose text doesn't come after its own.
-fn place(alloc: Global, p: &Ty, t: &Words, parts: &[Ty]) -> Result<usize, NoMemory>
+/// The index at which a part with this text belongs: that after the last part whose text doesn't come after its own.
+pub(crate) fn place(
+    alloc: Global,
+    p: &Ty,
+    t: &Words,
+    parts: &[Ty],
+) -> Result<usize, NoMemory>
     requires { t.now ≡ shown p.now }
     ensures { IfOk result (λ at. (at ≤ length parts.now) × (placed shown p.now parts.now ≡ insert parts.now at p.now)) }
 {
