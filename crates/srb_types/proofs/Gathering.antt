@@ -84,7 +84,7 @@ module _ (L : Lineage) (t : Ty) (rest : List Ty) (some : 1 ≤ length rest) (fir
       → any_after L (of_parts qs) (take (length rest - 1) (drop 1 rest)) ≡ any_after L (of_parts ps) rest
   many_step ps qs some is new =
       after_step (of_parts ps) (of_parts qs) (of_parts qs) (take (length rest - 1) (drop 1 rest))
-          (ap of_parts new ∙ sym (any_many L ps t some is)) refl
+      (ap of_parts new ∙ sym (any_many L ps t some is)) refl
 
   pub shorter : (n : ℕ) → length rest ≤ n → length (take (length rest - 1) (drop 1 rest)) ≤ n
   shorter n within =

@@ -193,12 +193,7 @@ fn is_before_part(alloc: Global, t: &Words, part: &Ty) -> Result<bool, NoMemory>
 }
 
 /// The index at which a part with this text belongs: that after the last part whose text doesn't come after its own.
-pub(crate) fn place(
-    alloc: Global,
-    p: &Ty,
-    t: &Words,
-    parts: &[Ty],
-) -> Result<usize, NoMemory>
+pub(crate) fn place(alloc: Global, p: &Ty, t: &Words, parts: &[Ty]) -> Result<usize, NoMemory>
     requires { t.now ≡ shown p.now }
     ensures { IfOk result (λ at. (at ≤ length parts.now) × (placed shown p.now parts.now ≡ insert parts.now at p.now)) }
 {

@@ -7,4 +7,4 @@ pub returns-in-Class : goal.returns-in-Class
 returns-in-Class c =
     c.contains.ensures
     ∙ kept_lies (lineage_at c.args.w.now) c.args.p.now c.args.q.now c.in-Class.field-0 c.args.d.now c.args.names.now
-        c.in-Class.is c.requires.class c.requires.names
+    c.in-Class.is c.requires.class c.requires.names
