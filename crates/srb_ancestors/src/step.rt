@@ -109,6 +109,21 @@ fn has(names: &[Name], name: &Name) -> bool
     false
 }
 
+// Adds what a module adds: the names of its list that stand neither in `below` nor here.
+fn add_list(
+    alloc: Global,
+    lists: &Lists,
+    below: &Names,
+    module: &Name,
+    here: &mut Vec<Name>,
+) -> Result<(), NoMemory>
+    ensures { OnOk result (here.new.items ≡ rules.joined below.now here.old.items (list_in (get bytes_eq lists.now) module.now)) }
+{
+    let list = list_at(lists, module)?;
+    let mut more = new_names(alloc, here.as_slice(), below, &list)?;
+    here.append(&mut more)
+}
+
 // `c`, and what its modules add, from the last to the first.
 fn here(
     alloc: Global,
@@ -122,9 +137,7 @@ fn here(
     let mut here = Vec::new(alloc);
     here.push(c.copied()?)?;
     'modules: for index in (0..modules.len()).rev() {
-        let list = list_at(lists, &modules[index])?;
-        let mut more = new_names(alloc, here.as_slice(), below, &list)?;
-        here.append(&mut more)?;
+        add_list(alloc, lists, below, &modules[index], &mut here)?;
     }
     Ok(here)
 }
