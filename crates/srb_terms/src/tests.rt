@@ -1,6 +1,5 @@
 mod examples;
 mod names;
 mod shared;
-mod spellings;
 mod tree;
 mod world;

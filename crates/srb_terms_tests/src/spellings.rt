@@ -1,4 +1,4 @@
-use crate::{Name, Words};
+use srb_terms::{Name, Words};
 use std::alloc::AllocError;
 
 // Texts of no byte, of 13, 14 and 15 bytes, of 14 bytes in five characters of two and one of four, and of 42 bytes.
