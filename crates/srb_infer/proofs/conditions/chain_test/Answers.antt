@@ -7,6 +7,6 @@ use Rattle.srb_infer.proofs.conditions.chain_test.Goals as goal
 pub returns : goal.returns
 returns g c =
     let the = g.L.Language.the c.args.language.now in
-    IfOk-weaker c.saying.result _ _
+    IfOk-weaker c.said.result _ _
     (λ t h. h ∙ (λ i. settled (saying the (c.in_ok-says.ensures i) (c.in_ok-ty.ensures i))))
-    c.saying.ensures
+    c.said.ensures

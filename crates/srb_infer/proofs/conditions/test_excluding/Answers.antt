@@ -7,6 +7,6 @@ use Rattle.srb_infer.proofs.conditions.test_excluding.Goals as goal
 pub returns : goal.returns
 returns g c =
     let the = g.L.Language.the c.args.language.now in
-    IfOk-weaker c.excluding.result _ _
+    IfOk-weaker c.without_dead.result _ _
     (λ t h. ap settled (h (seen_state c.test_inside.new.state)) ∙ (λ i. settled (excluding the (c.in_ok-tested.ensures i))))
-    c.excluding.ensures
+    c.without_dead.ensures
