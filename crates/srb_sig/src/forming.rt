@@ -9,7 +9,7 @@ use crate::forms::TypeForm;
 use crate::reading::{Read, Row, with_wrong};
 use crate::wrong::Cause;
 use srb_terms::{Name, NoMemory, Ty, World};
-use srb_types::{all, any, array, hash};
+use srb_types::{all, any, any_after, array, hash};
 use std::alloc::Global;
 
 /// `T.nilable` of the first of some types.
@@ -44,11 +44,7 @@ fn second_type(types: &[Ty]) -> Result<Ty, NoMemory>
 fn any_list(alloc: Global, w: &World, types: &[Ty]) -> Result<Ty, NoMemory>
     ensures { IfOk result (λ t. t ≡ normal.any_list (view_at w.now).lineage types.now) }
 {
-    let mut so_far = Ty::Never;
-    'types: for ty in types {
-        so_far = any(alloc, w, &so_far, ty)?;
-    }
-    Ok(so_far)
+    any_after(alloc, w, Ty::Never, types)
 }
 
 /// `T.all` of a type and of some more.
