@@ -1,7 +1,7 @@
-ghost use Rattle.std.specs.Prelude.{◌≡◌, ◌-◌, ◌^◌, ◌<◌, ◌≤◌, IfOk, IfErr, length, map, string_bytes, vec_len};
+ghost use Rattle.std.specs.Prelude.{◌≡◌, ◌+◌, ◌-◌, ◌^◌, ◌<◌, ◌≤◌, ℕ, List, Option, IfOk, IfErr, length, map, string_bytes, vec_len};
 ghost use Rattle.lsp_docs.specs.Documents.{MOST_FILES};
 ghost use Rattle.srb_text.specs.Limits.{MOST_BYTES};
-ghost use Rattle.srb_io.specs.Files.{AreInOrder, AreListed};
+ghost use Rattle.srb_io.specs.Files.{AreFirst, AreInOrder, AreListed, FolderFile};
 ghost use Rattle.run_serve.specs.Projects.{IsWithin};
 ghost use Rattle.srb_cli.specs.Folders.{IsFolder, IsUnread, IsTold, IsFileUnread};
 
@@ -10,6 +10,16 @@ use srb_io::{Files, FilesEnd};
 use srb_terms::{Cause, Name, Project};
 use srb_text::BYTES_LIMIT;
 use std::alloc::Global;
+
+/// The cause where a file is larger than the room.
+fn too_large(alloc: Global, path: &str) -> Cause
+    ensures { (told : Option (List FolderFile)) (bytes : List ℕ) (room before after : ℕ) → AreFirst told path.now (room + 1) bytes → room < length bytes → after ≡ before → IsFileUnread result told path.now room before after }
+{
+    match Name::from_str(alloc, path) {
+        Ok(path) => Cause::TooBig { path },
+        Err(_) => Cause::NoMemory,
+    }
+}
 
 /// All bytes of the file at `path`, of which there may be `room`.
 fn read_file<F: Files>(
@@ -31,10 +41,7 @@ fn read_file<F: Files>(
     match files.read(alloc, dir, path, room as u64 + 1) {
         Ok(bytes) => {
             if bytes.len() > room {
-                return match Name::from_str(alloc, path) {
-                    Ok(path) => Err(Cause::TooBig { path }),
-                    Err(_) => Err(Cause::NoMemory),
-                };
+                return Err(too_large(alloc, path));
             }
             Ok(bytes)
         }
