@@ -1,4 +1,6 @@
 //! Conditions: how each kind of tree is judged for truth and for falsehood.
+//!
+//! What is done for one kind of tree is never inlined, so that a condition inside another takes a small frame.
 
 ghost use Rattle.std.specs.Prelude.{◌≡◌, IfOk};
 ghost use Rattle.srb_judgement.specs.Kept.{seen_context};
@@ -70,6 +72,7 @@ fn said<L: Language>(
 
 /// Judges a tree as a condition.
 #[tactic(auto, using(srb_walk::proofs::Judgings::test_is), unfolding(srb_walk::specs::Judging::test_by_life))]
+#[inline(never)]
 pub fn test_node<W: Walk, L: Language>(
     alloc: Global,
     walk: &W,
@@ -231,6 +234,7 @@ fn name_test<L: Language>(
 }
 
 /// Judges an assignment as a condition.
+#[inline(never)]
 fn assigned_test<W: Walk, L: Language>(
     alloc: Global,
     walk: &W,
@@ -248,6 +252,7 @@ fn assigned_test<W: Walk, L: Language>(
 }
 
 /// Judges an assignment with an operator as a condition.
+#[inline(never)]
 fn operator_assigned_test<W: Walk, L: Language>(
     alloc: Global,
     walk: &W,
@@ -304,6 +309,7 @@ fn prefix_test<W: Walk, L: Language>(
 }
 
 /// Judges an operator before its operand as a condition.
+#[inline(never)]
 fn unary_test<W: Walk, L: Language>(
     alloc: Global,
     walk: &W,
@@ -396,6 +402,7 @@ fn operator_test<W: Walk, L: Language>(
 }
 
 /// Judges an operator between two operands as a condition.
+#[inline(never)]
 fn binary_test<W: Walk, L: Language>(
     alloc: Global,
     walk: &W,
@@ -419,6 +426,7 @@ fn binary_test<W: Walk, L: Language>(
 }
 
 /// Judges a row as a condition.
+#[inline(never)]
 fn chain_test<W: Walk, L: Language>(
     alloc: Global,
     walk: &W,
@@ -440,6 +448,7 @@ fn chain_test<W: Walk, L: Language>(
 }
 
 /// Judges a command as a condition.
+#[inline(never)]
 fn command_test<W: Walk, L: Language>(
     alloc: Global,
     walk: &W,
