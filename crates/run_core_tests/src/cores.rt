@@ -185,24 +185,42 @@ fn asked(id: i64) -> Inp {
     Inp::Msg(Msg::Unknown { id: Id::Number(id) })
 }
 
-#[test]
-fn each_time_of_a_session_has_its_answers(rt: HostRuntime) -> Result<(), NoMemory> {
-    let alloc = rt.alloc();
-    let mut core = Core::new(alloc, Project::new(alloc))?;
-    let early = say(&rt, alloc, &mut core, asked(7))?;
+/// Before `initialize` each request is refused.
+fn early(rt: &impl Abort, alloc: Global, core: &mut Core) -> Result<(), NoMemory> {
+    let early = say(rt, alloc, core, asked(7))?;
     assert!(rt; is_error(&early, 7, SERVER_NOT_INITIALIZED));
-    let _begun = say(&rt, alloc, &mut core, initialize(alloc)?)?;
+    let _begun = say(rt, alloc, core, initialize(alloc)?)?;
+    Ok(())
+}
+
+/// After `shutdown` each request is refused.
+fn late(rt: &impl Abort, alloc: Global, core: &mut Core) -> Result<(), NoMemory> {
     let shutdown = Inp::Msg(Msg::Shutdown { id: Id::Number(2) });
-    let owed = say(&rt, alloc, &mut core, shutdown)?;
+    let owed = say(rt, alloc, core, shutdown)?;
     assert!(rt; owed.is_none());
-    let late = say(&rt, alloc, &mut core, asked(3))?;
+    let late = say(rt, alloc, core, asked(3))?;
     assert!(rt; is_error(&late, 3, INVALID_REQUEST));
+    Ok(())
+}
+
+/// The reply to `shutdown` is written when all is built.
+fn at_rest(rt: &impl Abort, alloc: Global, core: &mut Core) -> Result<(), NoMemory> {
     assert!(rt; core.is_looked());
-    build(&rt, alloc, &mut core)?;
+    build(rt, alloc, core)?;
     assert!(rt; core.is_looked());
     assert!(rt; core.rest());
     let reply = core.idle(alloc)?;
     assert!(rt; matches!(&reply, Some(Out::Null { id: Id::Number(2) })));
+    Ok(())
+}
+
+#[test]
+fn each_time_of_a_session_has_its_answers(rt: HostRuntime) -> Result<(), NoMemory> {
+    let alloc = rt.alloc();
+    let mut core = Core::new(alloc, Project::new(alloc))?;
+    early(&rt, alloc, &mut core)?;
+    late(&rt, alloc, &mut core)?;
+    at_rest(&rt, alloc, &mut core)?;
     let _end = say(&rt, alloc, &mut core, Inp::End(EndCause::Exit))?;
     assert!(rt; matches!(core.end(), Some((EndCause::Exit, true))));
     Ok(())

@@ -132,18 +132,27 @@ fn work(alloc: Global, path: &str, epoch: u64, errors: u64, shown: bool) -> Resu
     })
 }
 
+// The steps of a session that finds errors in two files, and in each of them twice.
+fn two_files(alloc: Global) -> Result<Vec<Step>, NoMemory> {
+    let mut steps = Vec::new(alloc);
+    steps.push(Step::Look)?;
+    steps.push(Step::Build)?;
+    for (path, epoch, errors, shown) in [
+        ("a.rb", 1, 5, true),
+        ("b.rb", 1, 2, true),
+        ("a.rb", 2, 1, true),
+        ("b.rb", 3, 2, false),
+    ] {
+        steps.push(work(alloc, path, epoch, errors, shown)?)?;
+    }
+    steps.push(Step::Idle)?;
+    Ok(steps)
+}
+
 #[test]
 fn the_last_list_of_each_file_counts(rt: HostRuntime) -> Result<(), Fail> {
     let alloc = rt.alloc();
-    let steps = vec![in alloc;
-        Step::Look,
-        Step::Build,
-        work(alloc, "a.rb", 1, 5, true)?,
-        work(alloc, "b.rb", 1, 2, true)?,
-        work(alloc, "a.rb", 2, 1, true)?,
-        work(alloc, "b.rb", 3, 2, false)?,
-        Step::Idle,
-    ]?;
+    let steps = two_files(alloc)?;
     assert_eq!(rt; edits_in(steps.as_slice()), 3);
     assert_eq!(rt; errors_in(alloc, steps.as_slice())?, 3);
     assert_eq!(rt; (edits_in(&[]), errors_in(alloc, &[])?), (0, 0));
