@@ -12,6 +12,7 @@ ghost use Rattle.rb_lex.specs.Levels.{level_of_text};
 mod chars;
 mod cut;
 mod heading;
+mod lexer;
 mod met;
 mod number;
 mod operator;
@@ -20,6 +21,7 @@ mod running;
 mod state;
 mod word;
 
+pub use lexer::Lexer;
 use rb_tree::token::Token;
 use srb_terms::Level;
 use srb_text::Text;
@@ -48,5 +50,7 @@ pub fn level(text: &Text) -> Level
 pub fn lex(alloc: Global, text: &Text) -> Result<Vec<Token>, LexEnd>
     ensures { Gives (λ v. v.items) result (lexed_text text.now) }
 {
-    running::lex_bytes(alloc, text.as_str().as_bytes())
+    let mut lexer = Lexer::new(alloc);
+    lexer.lex(alloc, text)?;
+    Ok(lexer.into_tokens())
 }

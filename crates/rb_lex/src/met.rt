@@ -24,14 +24,28 @@ fn mixed(bytes: &[u8]) -> usize {
     mix
 }
 
+fn empty_slots(alloc: Global) -> Result<Vec<Option<Words>>, NoMemory> {
+    let mut slots = Vec::with_capacity(alloc, KEPT)?;
+    for _ in 0..KEPT {
+        slots.push(None)?;
+    }
+    Ok(slots)
+}
+
 impl Met {
-    /// No words.
-    pub fn new(alloc: Global) -> Result<Met, NoMemory> {
-        let mut slots = Vec::with_capacity(alloc, KEPT)?;
-        for _ in 0..KEPT {
-            slots.push(None)?;
+    /// No words. It takes no memory.
+    pub fn new(alloc: Global) -> Met {
+        Met {
+            slots: Vec::new(alloc),
         }
-        Ok(Met { slots })
+    }
+
+    /// Makes the slots, where there are none.
+    fn open(&mut self, alloc: Global) -> Result<(), NoMemory> {
+        if self.slots.is_empty() {
+            self.slots = empty_slots(alloc)?;
+        }
+        Ok(())
     }
 
     /// The words of this text. Long ones share their bytes where equal ones were met lately.
@@ -41,6 +55,7 @@ impl Met {
         if Words::lie_in_place(text) {
             return Words::from_str(alloc, text);
         }
+        self.open(alloc)?;
         let at = mixed(text.as_bytes()) % KEPT;
         if let Some(Some(words)) = self.slots.get(at) {
             if words.as_str() == text {

@@ -1,6 +1,6 @@
 //! The lexer's state between two steps, and the steps that change it.
 
-ghost use Rattle.std.specs.Prelude.{◌≡◌, ◌≢◌, ◌<◌, ◌≤◌, ◌+◌, ◌-◌, ◌^◌, length, slice_index, IfOk, OnOk, true, false};
+ghost use Rattle.std.specs.Prelude.{◌≡◌, ◌≢◌, ◌<◌, ◌≤◌, ◌+◌, ◌-◌, ◌^◌, [], length, slice_index, IfOk, OnOk, true, false};
 ghost use Rattle.std.specs.Option.{option_copied};
 ghost use Rattle.std.specs.Prelude.{◌||◌, take};
 ghost use Rattle.std.specs.Str.{IsUtf8};
@@ -147,12 +147,13 @@ fn continued(goes: bool, last: Before, lexeme: Lexeme) -> Lexeme
 }
 
 impl State {
-    /// The state at the start of a text, with room for so many tokens.
-    pub fn new(alloc: Global, room: usize) -> Result<State, NoMemory>
-        ensures { IfOk result (λ s. s ≡ spec.START) }
+    /// The state at the start of a text, whose tokens come into this list.
+    pub fn new(alloc: Global, tokens: Vec<Token>) -> State
+        requires { tokens.items ≡ [] }
+        ensures { result ≡ spec.START }
     {
-        Ok(State {
-            tokens: Items::from_vec(Vec::with_capacity(alloc, room)?),
+        State {
+            tokens: Items::from_vec(tokens),
             mark: 0,
             nesting: Items::new(alloc),
             string: None,
@@ -164,7 +165,7 @@ impl State {
             last: Before::Plain,
             keeps: false,
             has_bars: false,
-        })
+        }
     }
 
     fn push(&mut self, kind: TokenKind, start: u32, end: u32) -> Result<(), LexEnd>
@@ -445,15 +446,22 @@ impl State {
         false
     }
 
-    /// The tokens, at the text's end.
-    pub fn finish(self, at: u32) -> Result<Vec<Token>, LexEnd>
-        ensures { Gives (λ v. v.items) result (spec.finished at self) }
+    /// Whether the text may end here. No string and no interpolation may be open.
+    pub fn finish(&self, at: u32) -> Result<(), LexEnd>
+        ensures { Gives (λ _. self.now.tokens) result (spec.finished at self.now) }
     {
         if self.string.is_some() || self.is_inside() {
             return Err(LexEnd::Bad { at });
         }
+        Ok(())
+    }
+
+    /// The tokens before the place.
+    pub fn into_tokens(self) -> Vec<Token>
+        ensures { result.items ≡ self.tokens }
+    {
         let State { tokens, .. } = self;
-        Ok(tokens.into_vec())
+        tokens.into_vec()
     }
 }
 

@@ -6,6 +6,7 @@ ghost use Rattle.srb_check.specs.Symbols.{project_facts};
 
 use crate::file::FileRec;
 use crate::job::Job;
+use rb_lex::Lexer;
 use srb_summary::Summary;
 use srb_table::build;
 use srb_terms::{Boxed, Items, Name, NoMemory};
@@ -17,6 +18,8 @@ use std::marker::Model;
 pub struct Files {
     paths: Items<Name>,
     records: Items<Boxed<FileRec>>,
+    /// What reads the texts. All loads share its room, so that none leaves a hole of its own in memory.
+    lexer: Lexer,
 }
 
 impl Model for Files {
@@ -42,6 +45,7 @@ impl Files {
         Files {
             paths: Items::new(alloc),
             records: Items::new(alloc),
+            lexer: Lexer::new(alloc),
         }
     }
 
@@ -55,7 +59,7 @@ impl Files {
     ) -> Result<(), NoMemory>
         ensures { (project : List File) → AreLoaded project self.old → OnOk result (AreLoaded (project ++ (path, bytes.now) ∷ []) self.new) }
     {
-        let record = before.load(alloc, &path, self.paths.len(), bytes)?;
+        let record = before.load(alloc, &mut self.lexer, &path, self.paths.len(), bytes)?;
         self.add_record(path, record)
     }
 
@@ -84,7 +88,7 @@ impl Files {
     pub fn job(self, alloc: Global) -> Result<Job, NoMemory>
         ensures { (project : List File) → AreLoaded project self → IfOk result (λ job. IsJobOf project job) }
     {
-        let Files { paths, records } = self;
+        let Files { paths, records, .. } = self;
         let summaries = summaries(alloc, records.as_slice())?;
         let built = build(alloc, summaries.as_slice())?;
         let world = Boxed::new(alloc, built)?;
@@ -97,7 +101,7 @@ impl Files {
             → IfOk result (λ job. IsJobOf project job) }
     {
         let world = before.world()?;
-        let Files { paths, records } = self;
+        let Files { paths, records, .. } = self;
         Ok(Job::with(world, paths, records))
     }
 }

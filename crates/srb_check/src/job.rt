@@ -9,7 +9,8 @@ ghost use Rattle.srb_check.specs.Symbols.{project_facts};
 
 use crate::checking::check_file;
 use crate::file::FileRec;
-use crate::loading::load;
+use crate::loading::load_by;
+use rb_lex::Lexer;
 use srb_summary::{Summary, same};
 use srb_terms::{Boxed, Diag, Fact, Items, Name, NoMemory, Steps, World};
 use std::alloc::Global;
@@ -84,15 +85,23 @@ impl Job {
         ensures { IfOk result (λ r. r ≡ option_map loaded (option_copied bytes.entry)) }
     {
         match bytes {
-            Some(bytes) => Ok(Some(self.load(alloc, path, self.paths.len(), bytes)?)),
+            Some(bytes) => Ok(Some(self.load(
+                alloc,
+                &mut Lexer::new(alloc),
+                path,
+                self.paths.len(),
+                bytes,
+            )?)),
             None => Ok(None),
         }
     }
 
-    /// The record of the file of these bytes at a path, shared where the job has it. The path is looked for at the index `near` first.
+    /// The record of the file of these bytes at a path, shared where the job has it, otherwise loaded with the lexer's room. The path is
+    /// looked for at the index `near` first.
     pub(crate) fn load(
         &self,
         alloc: Global,
+        lexer: &mut Lexer,
         path: &Name,
         near: usize,
         bytes: &[u8],
@@ -101,7 +110,7 @@ impl Job {
     {
         match self.record(path, near, bytes) {
             Some(record) => record.copied(),
-            None => Boxed::new(alloc, load(alloc, bytes)?),
+            None => Boxed::new(alloc, load_by(alloc, lexer, bytes)?),
         }
     }
 

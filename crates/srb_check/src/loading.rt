@@ -7,7 +7,7 @@ ghost use Rattle.srb_check.specs.declared.reading.Reading.TheVariants as reading
 use crate::errors::{not_utf8, too_large};
 use crate::file::FileRec;
 use crate::reading::{Reading, read};
-use rb_lex::level;
+use rb_lex::{Lexer, level};
 use rb_rewrite::attrs;
 use rb_tree::syntax::Tree;
 use srb_namer::facts;
@@ -110,28 +110,44 @@ fn read_record(
 }
 
 /// The record of a text at this level.
-fn text_record(alloc: Global, text: Text, level: Level) -> Result<FileRec, AllocError>
+fn text_record(
+    alloc: Global,
+    lexer: &mut Lexer,
+    text: Text,
+    level: Level,
+) -> Result<FileRec, AllocError>
     ensures { IfOk result (λ f. f ≡ spec.text_record text level) }
 {
     if hides_all(level) {
         return hidden(alloc, text, level);
     }
-    let reading = read(alloc, &text)?;
+    let reading = read(alloc, lexer, &text)?;
     read_record(alloc, text, level, reading)
 }
 
 /// The record of a file that isn't too large.
-fn load_small(alloc: Global, bytes: &[u8]) -> Result<FileRec, AllocError>
+fn load_small(alloc: Global, lexer: &mut Lexer, bytes: &[u8]) -> Result<FileRec, AllocError>
     requires { length bytes.now ≤ LARGEST_FILE }
     ensures { IfOk result (λ f. f ≡ spec.loaded bytes.now) }
 {
     match Text::from_bytes(alloc, bytes) {
         Ok(text) => {
             let level = level(&text);
-            text_record(alloc, text, level)
+            text_record(alloc, lexer, text, level)
         }
         Err(TextFault::NotUtf8 { .. }) => unread(alloc, not_utf8(alloc)?),
         Err(TextFault::NoMemory) => Err(AllocError),
+    }
+}
+
+/// Loads a file, as `load` does. The lexer's room is used.
+pub(crate) fn load_by(alloc: Global, lexer: &mut Lexer, bytes: &[u8]) -> Result<FileRec, AllocError>
+    ensures { IfOk result (λ f. f ≡ spec.loaded bytes.now) }
+{
+    if bytes.len() > LARGEST_FILE {
+        unread(alloc, too_large(alloc)?)
+    } else {
+        load_small(alloc, lexer, bytes)
     }
 }
 
@@ -139,9 +155,5 @@ fn load_small(alloc: Global, bytes: &[u8]) -> Result<FileRec, AllocError>
 pub fn load(alloc: Global, bytes: &[u8]) -> Result<FileRec, AllocError>
     ensures { IfOk result (λ f. f ≡ spec.loaded bytes.now) }
 {
-    if bytes.len() > LARGEST_FILE {
-        unread(alloc, too_large(alloc)?)
-    } else {
-        load_small(alloc, bytes)
-    }
+    load_by(alloc, &mut Lexer::new(alloc), bytes)
 }

@@ -7,7 +7,7 @@ use crate::characters::character_at;
 use crate::errors::{outside, syntax_error, too_deep};
 use rb_decl::parse;
 use rb_expr::ParseEnd;
-use rb_lex::{LexEnd, lex};
+use rb_lex::{LexEnd, Lexer};
 use rb_tree::syntax::Tree;
 use rb_tree::token::Token;
 use srb_terms::{Diag, Span};
@@ -61,14 +61,14 @@ fn read_tokens(alloc: Global, tokens: &[Token], size: u32) -> Result<Reading, Al
     }
 }
 
-/// What a text is read to.
+/// What a text is read to. The lexer's room is used.
 #[tactic(auto, unfolding(crate::specs::Readings::read))]
-pub fn read(alloc: Global, text: &Text) -> Result<Reading, AllocError>
+pub fn read(alloc: Global, lexer: &mut Lexer, text: &Text) -> Result<Reading, AllocError>
     ensures { IfOk result (λ r. r ≡ spec.read text.now) }
 {
     let bytes = text.as_str().as_bytes();
-    match lex(alloc, text) {
-        Ok(tokens) => read_tokens(alloc, tokens.as_slice(), bytes.len() as u32),
+    match lexer.lex(alloc, text) {
+        Ok(()) => read_tokens(alloc, lexer.tokens(), bytes.len() as u32),
         Err(LexEnd::Bad { at }) => Ok(Reading::Refused {
             error: syntax_error(alloc, character_at(bytes, at))?,
         }),
