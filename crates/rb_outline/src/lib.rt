@@ -1,11 +1,9 @@
 //! Outlines of trees: what a tree is, without its places.
 //!
-//! `outline` makes the outline of a tree, in time and memory proportional to its size; the texts are shared with the tree, and nodes
-//! without words or parts share what is empty. Two outlines
-//! are compared by `same_outline`, without memory.
+//! `outline` makes the outline of a tree, in time and memory proportional to its size; long texts are shared with the tree. Two
+//! outlines are compared by `same_outline`, without memory.
 #![tactic(auto)]
 
-mod blank;
 mod make;
 mod same;
 mod words;

@@ -15,7 +15,7 @@ fn same_label(a: &Label, b: &Label) -> bool
 pub fn same_outline(a: &Outline, b: &Outline) -> bool
     ensures { IsTrue result ↔ (a.now ≡ b.now) }
 {
-    same_label(&a.label, &b.label) && same_rows(a.parts.get().as_slice(), b.parts.get().as_slice())
+    same_label(&a.label, &b.label) && same_rows(a.parts.as_slice(), b.parts.as_slice())
 }
 
 // Whether two rows of outlines are equal.

@@ -1,8 +1,7 @@
-ghost use Rattle.std.specs.Prelude.{◌≡◌, ◌++◌, IfOk};
+ghost use Rattle.std.specs.Prelude.{◌≡◌, [], ◌++◌, IfOk};
 ghost use Rattle.rb_tree.specs.declared.syntax.Node.{out-Node};
 ghost use Rattle.rb_outline.specs.Outlines as spec;
 
-use crate::blank::Blank;
 use rb_tree::syntax::{Binary, Jump, Modifier, Node, PlacedName, Sign, Test, Unary, Visibility};
 use srb_terms::{Name, NoMemory, NodeKind, ParamKind, Words};
 use std::alloc::Global;
@@ -177,6 +176,13 @@ pub fn top_words(top: bool) -> &'static str
     if top { "::" } else { "" }
 }
 
+/// No words. It takes no memory.
+pub fn no_words(alloc: Global) -> Result<Words, NoMemory>
+    ensures { IfOk result (λ w. w ≡ []) }
+{
+    Words::from_str(alloc, "")
+}
+
 /// A name after what stands before it.
 pub fn marked(alloc: Global, mark: &str, name: &Name) -> Result<Words, NoMemory>
     ensures { IfOk result (λ w. w ≡ mark.now ++ name.now) }
@@ -187,15 +193,11 @@ pub fn marked(alloc: Global, mark: &str, name: &Name) -> Result<Words, NoMemory>
 }
 
 /// The words of a `rescue` clause.
-pub fn variable_words(
-    alloc: Global,
-    blank: &Blank,
-    variable: &Option<PlacedName>,
-) -> Result<Words, NoMemory>
+pub fn variable_words(alloc: Global, variable: &Option<PlacedName>) -> Result<Words, NoMemory>
     ensures { IfOk result (λ w. w ≡ spec.variable_words variable.now) }
 {
     match variable {
-        None => blank.words(),
+        None => no_words(alloc),
         Some(name) => marked(alloc, "=> ", &name.name),
     }
 }
@@ -216,7 +218,7 @@ fn def_words(
 }
 
 /// The words of a node.
-pub fn words_of(alloc: Global, blank: &Blank, node: &Node) -> Result<Words, NoMemory>
+pub fn words_of(alloc: Global, node: &Node) -> Result<Words, NoMemory>
     ensures { IfOk result (λ w. w ≡ spec.words_at (out-Node node.now)) }
 {
     match node {
@@ -260,6 +262,6 @@ pub fn words_of(alloc: Global, blank: &Blank, node: &Node) -> Result<Words, NoMe
         | Node::Case { .. }
         | Node::Begin { .. }
         | Node::Class { .. }
-        | Node::Module { .. } => blank.words(),
+        | Node::Module { .. } => no_words(alloc),
     }
 }

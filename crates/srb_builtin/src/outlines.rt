@@ -4,7 +4,7 @@ ghost use Rattle.std.specs.Prelude.{◌≡◌, [], ◌∷◌, IfOk};
 ghost use Rattle.srb_terms.specs.declared.outline.NodeKind.TheVariants as kind;
 ghost use Rattle.srb_builtin.specs.Outlines as spec;
 
-use srb_terms::{Boxed, Items, Label, NoMemory, NodeKind, Outline, Words};
+use srb_terms::{Items, Label, NoMemory, NodeKind, Outline, Words};
 use std::alloc::Global;
 
 // The outline of a kind, with words and parts.
@@ -17,7 +17,6 @@ fn outline(
     ensures { IfOk result (λ o. o ≡ spec.outline kind words.now parts) }
 {
     let words = Words::from_str(alloc, words)?;
-    let parts = Boxed::new(alloc, parts)?;
     Ok(Outline {
         label: Label { kind, words },
         parts,

@@ -52,11 +52,11 @@ fn read_inside(
     ensures { IfOk result (λ r. r ≡ spec.rows (view_at w.now) scope.now t.now row) }
 {
     match t.label.kind {
-        NodeKind::Keyword => read_values(t.parts.get().as_slice(), alloc, w, scope, row),
-        NodeKind::Brackets => read_arguments(t.parts.get().as_slice(), alloc, w, scope, row),
-        NodeKind::Index => read_arguments(t.parts.get().as_slice(), alloc, w, scope, row),
-        NodeKind::SuffixCall => read_rows(t.parts.get().as_slice(), alloc, w, scope, row),
-        NodeKind::Post => read_rows(t.parts.get().as_slice(), alloc, w, scope, row),
+        NodeKind::Keyword => read_values(t.parts.as_slice(), alloc, w, scope, row),
+        NodeKind::Brackets => read_arguments(t.parts.as_slice(), alloc, w, scope, row),
+        NodeKind::Index => read_arguments(t.parts.as_slice(), alloc, w, scope, row),
+        NodeKind::SuffixCall => read_rows(t.parts.as_slice(), alloc, w, scope, row),
+        NodeKind::Post => read_rows(t.parts.as_slice(), alloc, w, scope, row),
         _ => Ok(row),
     }
 }

@@ -39,7 +39,7 @@ pub enum TypeForm {
 pub fn parts(tree: &Outline) -> &[Outline]
     ensures { result.now ≡ spec.parts_of tree.now }
 {
-    tree.parts.get().as_slice()
+    tree.parts.as_slice()
 }
 
 /// Whether a tree is a constant, perhaps with `::` in front.

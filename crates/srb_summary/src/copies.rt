@@ -1,13 +1,14 @@
-//! Copies of facts. They share the names and trees in them.
+//! Copies of facts. They share the long names in them.
 
 ghost use Rattle.std.specs.Prelude.{◌≡◌, IfOk};
 
 use srb_terms::{Fact, Given, Items, Label, NoMemory, Outline, ParamShape, SigText, TyText};
 use std::alloc::Global;
 
-/// A copy of an outline. It takes no memory.
+/// A copy of an outline. Its depth bounds the recursion.
+#[cycle(copies)]
 #[tactic(auto, using(crate::proofs::Outlines::made_again))]
-fn copied_outline(outline: &Outline) -> Result<Outline, NoMemory>
+fn copied_outline(alloc: Global, outline: &Outline) -> Result<Outline, NoMemory>
     ensures { IfOk result (λ o. o ≡ outline.now) }
 {
     Ok(Outline {
@@ -15,38 +16,50 @@ fn copied_outline(outline: &Outline) -> Result<Outline, NoMemory>
             kind: outline.label.kind,
             words: outline.label.words.copied()?,
         },
-        parts: outline.parts.copied()?,
+        parts: copied_outlines(alloc, outline.parts.as_slice())?,
     })
 }
 
-/// A copy of a type's text. It takes no memory.
-fn copied_type(text: &TyText) -> Result<TyText, NoMemory>
+/// Copies of outlines.
+#[cycle(copies)]
+fn copied_outlines(alloc: Global, outlines: &[Outline]) -> Result<Items<Outline>, NoMemory>
+    ensures { IfOk result (λ os. os ≡ outlines.now) }
+{
+    let mut copies = Vec::with_capacity(alloc, outlines.len())?;
+    for outline in outlines {
+        copies.push(copied_outline(alloc, outline)?)?;
+    }
+    Ok(Items::from_vec(copies))
+}
+
+/// A copy of a type's text.
+fn copied_type(alloc: Global, text: &TyText) -> Result<TyText, NoMemory>
     ensures { IfOk result (λ t. t ≡ text.now) }
 {
     Ok(TyText {
-        tree: copied_outline(&text.tree)?,
+        tree: copied_outline(alloc, &text.tree)?,
     })
 }
 
-/// A copy of a signature's text, if there is one. It takes no memory.
-fn copied_sig(text: &Option<SigText>) -> Result<Option<SigText>, NoMemory>
+/// A copy of a signature's text, if there is one.
+fn copied_sig(alloc: Global, text: &Option<SigText>) -> Result<Option<SigText>, NoMemory>
     ensures { IfOk result (λ t. t ≡ text.now) }
 {
     match text {
         None => Ok(None),
         Some(text) => Ok(Some(SigText {
-            tree: copied_outline(&text.tree)?,
+            tree: copied_outline(alloc, &text.tree)?,
         })),
     }
 }
 
-/// A copy of what is told of a constant's type. It takes no memory.
-fn copied_given(given: &Given) -> Result<Given, NoMemory>
+/// A copy of what is told of a constant's type.
+fn copied_given(alloc: Global, given: &Given) -> Result<Given, NoMemory>
     ensures { IfOk result (λ g. g ≡ given.now) }
 {
     match given {
         Given::Literal(class) => Ok(Given::Literal(class.copied()?)),
-        Given::Typed(text) => Ok(Given::Typed(copied_type(text)?)),
+        Given::Typed(text) => Ok(Given::Typed(copied_type(alloc, text)?)),
         Given::Unknown => Ok(Given::Unknown),
     }
 }
@@ -90,7 +103,7 @@ fn copied_fact(alloc: Global, fact: &Fact) -> Result<Fact, NoMemory>
         Fact::Value { name, scope, given } => Ok(Fact::Value {
             name: name.copied()?,
             scope: scope.copied()?,
-            given: copied_given(given)?,
+            given: copied_given(alloc, given)?,
         }),
         Fact::Method {
             owner,
@@ -105,7 +118,7 @@ fn copied_fact(alloc: Global, fact: &Fact) -> Result<Fact, NoMemory>
             meta: *meta,
             name: name.copied()?,
             params: copied_shapes(alloc, params.as_slice())?,
-            sig: copied_sig(sig)?,
+            sig: copied_sig(alloc, sig)?,
         }),
         Fact::Ivar {
             owner,
@@ -118,7 +131,7 @@ fn copied_fact(alloc: Global, fact: &Fact) -> Result<Fact, NoMemory>
             scope: scope.copied()?,
             meta: *meta,
             name: name.copied()?,
-            given: copied_type(given)?,
+            given: copied_type(alloc, given)?,
         }),
     }
 }

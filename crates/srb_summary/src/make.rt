@@ -5,7 +5,7 @@ use crate::list::Summary;
 use srb_terms::{Fact, NoMemory};
 use std::alloc::Global;
 
-/// The summary of these facts. The names and trees in it are shared with them.
+/// The summary of these facts. The long names in it are shared with them.
 pub fn summary(alloc: Global, facts: &[Fact]) -> Result<Summary, NoMemory>
     ensures { IfOk result (λ s. s ≡ facts.now) }
 {

@@ -94,7 +94,7 @@ fn places_do_not_count_and_operators_do(rt: HostRuntime) -> Result<(), NoMemory>
     let other = sum_outline(alloc, Binary::Minus, at(0, 1), at(4, 5))?;
     assert_eq!(rt; near.label.kind, NodeKind::Binary);
     assert_eq!(rt; near.label.words.as_str(), "+");
-    assert_eq!(rt; near.parts.get().len(), 2);
+    assert_eq!(rt; near.parts.len(), 2);
     assert!(rt; same_outline(&near, &far));
     assert!(rt; !same_outline(&near, &other));
     Ok(())
@@ -127,6 +127,6 @@ fn digits_are_the_words_of_a_number(rt: HostRuntime) -> Result<(), NoMemory> {
     )?;
     let made = outline(alloc, &tree)?;
     assert_eq!(rt; made.label.words.as_str(), "12");
-    assert!(rt; made.parts.get().is_empty());
+    assert!(rt; made.parts.is_empty());
     Ok(())
 }

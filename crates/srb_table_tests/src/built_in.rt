@@ -114,12 +114,12 @@ fn is_parameter(shape: Option<&ParamShape>, name: &str, kind: ParamKind) -> bool
 fn has(tree: &Outline, path: &[usize], kind: NodeKind, words: &str, parts: usize) -> bool {
     let mut at = tree;
     for index in path {
-        match at.parts.get().get(*index) {
+        match at.parts.get(*index) {
             None => return false,
             Some(part) => at = part,
         }
     }
-    at.label.kind == kind && at.label.words.as_str() == words && at.parts.get().len() == parts
+    at.label.kind == kind && at.label.words.as_str() == words && at.parts.len() == parts
 }
 
 #[test]

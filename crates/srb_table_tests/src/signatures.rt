@@ -2,7 +2,7 @@
 
 use srb_sig::{SigEnd, TyEnd, read_sig, read_type, wrong_parts};
 use srb_terms::{
-    Boxed, Items, Kind, Label, Name, Names, NoMemory, NodeKind, Outline, ParamKind, ParamShape,
+    Items, Kind, Label, Name, Names, NoMemory, NodeKind, Outline, ParamKind, ParamShape,
     SigText, TyText, Words, World,
 };
 use srb_types::show;
@@ -20,7 +20,7 @@ fn node(
             kind,
             words: Words::from_str(alloc, words)?,
         },
-        parts: Boxed::new(alloc, parts)?,
+        parts,
     })
 }
 

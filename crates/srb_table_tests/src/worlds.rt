@@ -3,7 +3,7 @@
 use srb_summary::Summary;
 use srb_table::world_of;
 use srb_terms::{
-    Boxed, Fact, Given, How, Items, Kind, Label, Name, Names, NoMemory, NodeKind, Outline,
+    Fact, Given, How, Items, Kind, Label, Name, Names, NoMemory, NodeKind, Outline,
     ParamKind, ParamShape, Shapes, SigText, Ty, TyText, Words, World,
 };
 use std::alloc::Global;
@@ -274,7 +274,7 @@ fn node(
             kind,
             words: Words::from_str(alloc, words)?,
         },
-        parts: Boxed::new(alloc, parts)?,
+        parts,
     })
 }
 

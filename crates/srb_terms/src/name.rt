@@ -109,7 +109,7 @@ impl Name {
     pub fn is_same(&self, other: &Name) -> bool
         ensures { IsTrue result ↔ (self.now ≡ other.now) }
     {
-        self.text.as_str() == other.text.as_str()
+        self.text.is_same(&other.text)
     }
 }
 
@@ -119,7 +119,7 @@ impl PartialEq for Name {
     ghost laws = { partial_equiv_from_equiv nat_list_eq_equiv };
 
     fn eq(&self, other: &Name) -> bool {
-        self.as_str() == other.as_str()
+        self.is_same(other)
     }
 }
 

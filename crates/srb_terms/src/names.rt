@@ -86,7 +86,7 @@ impl Names {
     {
         let mut at = self;
         while let Some((first, rest)) = at.split() {
-            if first.as_str() == name.as_str() {
+            if first.is_same(name) {
                 return true;
             }
             at = rest;

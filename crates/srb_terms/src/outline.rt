@@ -1,4 +1,4 @@
-use crate::{Boxed, Items, Words};
+use crate::{Items, Words};
 
 /// A tree of source without its places: what a node is, and its parts in order.
 ///
@@ -7,7 +7,7 @@ use crate::{Boxed, Items, Words};
 #[derive(Debug, Drop)]
 pub struct Outline {
     pub label: Label,
-    pub parts: Boxed<Items<Outline>>,
+    pub parts: Items<Outline>,
 }
 
 /// What a node of an outline is.

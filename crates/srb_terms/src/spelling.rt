@@ -1,4 +1,5 @@
-ghost use Rattle.std.specs.Prelude.{◌≡◌, ◌≤◌, ◌↔◌, ℕ, List, length, IsTrue, IfOk, string_bytes};
+ghost use Rattle.std.specs.Prelude.{◌≡◌, ◌≤◌, ◌↔◌, ℕ, List, length, nat_eq, IsTrue, IfOk, string_bytes};
+ghost use Rattle.std.specs.Cmp.Lexicographic.{pointwise};
 ghost use Rattle.srb_terms.specs.Spellings.{IsHeld, held};
 
 use crate::NoMemory;
@@ -25,7 +26,7 @@ pub(crate) struct Spelling {
 /// Where the bytes lie.
 #[derive(Drop)]
 enum Bytes {
-    /// In place, the first so many of these.
+    /// In place, the first so many of these. The others are 0.
     Short { len: u8, bytes: [u8; 14] },
     /// On the heap.
     Long(ArcStr),
@@ -90,6 +91,22 @@ impl Spelling {
                 str::from_utf8_unchecked(&bytes[..*len as usize])
             },
             Bytes::Long(text) => text.as_str(),
+        }
+    }
+
+    /// Whether both have the same bytes. Those in place are compared with what fills their room, so that no branch depends on their number.
+    pub(crate) fn is_same(&self, other: &Spelling) -> bool
+        ensures { result ≡ pointwise nat_eq self.now other.now }
+    {
+        match (&self.bytes, &other.bytes) {
+            (
+                Bytes::Short { len, bytes },
+                Bytes::Short {
+                    len: others,
+                    bytes: other,
+                },
+            ) => *len == *others && bytes[..] == other[..],
+            _ => self.as_str() == other.as_str(),
         }
     }
 
