@@ -156,10 +156,10 @@ impl Docs {
             return Ok(Items::new(alloc));
         }
         match self.rows.find_open(path) {
-            Some((_, text)) => places::placed(alloc, text, errors, self.encoding),
+            Some((_, text)) => places::placed(alloc, &text.lines(), errors, self.encoding),
             None => {
                 let text = texts::text_of(alloc, self.bytes(path).unwrap_or(&[]))?;
-                places::placed(alloc, &text, errors, self.encoding)
+                places::placed(alloc, &text.lines(), errors, self.encoding)
             }
         }
     }

@@ -5,13 +5,13 @@ ghost use Rattle.lsp_docs.specs.Documents.{placed, text_of};
 
 use lsp_msg::Placed;
 use srb_terms::{Diag, Items, NoMemory};
-use srb_text::{Encoding, Pos, Text, laws};
+use srb_text::{Encoding, Lines, Pos, laws};
 use std::alloc::Global;
 
 /// The errors of a text, their places turned into positions of the encoding.
 pub fn placed(
     alloc: Global,
-    text: &Text,
+    text: &Lines<'_>,
     errors: &[Diag],
     encoding: Encoding,
 ) -> Result<Items<Placed>, NoMemory>
@@ -24,7 +24,7 @@ pub fn placed(
     Ok(list)
 }
 
-fn placed_one(text: &Text, error: &Diag, encoding: Encoding) -> Result<Placed, NoMemory>
+fn placed_one(text: &Lines<'_>, error: &Diag, encoding: Encoding) -> Result<Placed, NoMemory>
     ensures { IfOk result (λ one. one ≡ placed encoding (encode_utf8_all text.now) error.now) }
 {
     Ok(Placed {
@@ -36,7 +36,7 @@ fn placed_one(text: &Text, error: &Diag, encoding: Encoding) -> Result<Placed, N
 }
 
 // The position of any offset in bytes: inside a character that of its start, after the text that of its end.
-fn position(text: &Text, at: u32, encoding: Encoding) -> Pos
+fn position(text: &Lines<'_>, at: u32, encoding: Encoding) -> Pos
     ensures { result ≡ position_of (weight_of encoding) (text_of (encode_utf8_all text.now)) at }
 {
     laws::starts_are_boundaries();

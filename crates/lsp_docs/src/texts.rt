@@ -5,7 +5,7 @@ ghost use Rattle.lsp_docs.specs.Documents.{text_of};
 ghost use Rattle.srb_text.specs.Limits.{MOST_BYTES};
 
 use srb_terms::NoMemory;
-use srb_text::{Text, TextFault};
+use srb_text::{BorrowedText, Text};
 use std::alloc::{AllocError, Global};
 
 /// The text of these characters.
@@ -19,14 +19,13 @@ pub fn made(alloc: Global, text: &str) -> Result<Text, NoMemory>
     }
 }
 
-/// The text of a file with these bytes; where they are no text it is empty.
-pub fn text_of(alloc: Global, bytes: &[u8]) -> Result<Text, NoMemory>
+/// The text of a file with these bytes, which stay where they are; where they are no text it is empty.
+pub fn text_of<'a>(alloc: Global, bytes: &'a [u8]) -> Result<BorrowedText<'a>, NoMemory>
     requires { length bytes.now ≤ MOST_BYTES }
     ensures { IfOk result (λ text. text ≡ text_of bytes.now) }
 {
-    match Text::from_bytes(alloc, bytes) {
-        Ok(text) => Ok(text),
-        Err(TextFault::NotUtf8 { .. }) => made(alloc, ""),
-        Err(TextFault::NoMemory) => Err(AllocError),
+    match std::str::from_utf8(bytes) {
+        Ok(text) => BorrowedText::of(alloc, text),
+        Err(_) => BorrowedText::of(alloc, ""),
     }
 }

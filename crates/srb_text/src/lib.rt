@@ -15,10 +15,12 @@ ghost use Rattle.srb_text.specs.Limits.{MOST_BYTES};
 ghost use Rattle.srb_text.specs.Positions.{byte_len, offset_of, position_of, weight_of, IsStart};
 
 pub mod laws;
+mod lines;
 mod places;
 mod table;
 mod units;
 
+pub use lines::{BorrowedText, Lines};
 use std::alloc::{AllocError, Global};
 use std::marker::Model;
 
@@ -116,12 +118,19 @@ impl Text {
         places::offset_in(self.starts.as_slice(), self.text.as_bytes(), p, encoding)
     }
 
+    /// The text by its lines.
+    pub fn lines(&self) -> Lines<'_>
+        ensures { result ≡ self.now }
+    {
+        Lines::new(self.text.as_str(), self.starts.as_slice())
+    }
+
     /// The position of an offset in bytes. Between the two characters of a line's end it is where that begins.
     pub fn pos(&self, at: u32, encoding: Encoding) -> Pos
         requires { IsStart self.now at }
         ensures { result ≡ position_of (weight_of encoding) self.now at }
     {
-        places::position_in(self.starts.as_slice(), self.text.as_bytes(), at, encoding)
+        self.lines().pos(at, encoding)
     }
 
     /// Puts `new` in the place of what stands between two positions. After an error the text is as it was.

@@ -11,6 +11,9 @@ const LINE_FEED: u8 = b'\n';
 
 const CARRIAGE_RETURN: u8 = b'\r';
 
+// How many bytes a line has at least, in most texts: so many lines have room from the start.
+const BYTES_OF_A_LINE: usize = 32;
+
 // How many of the starts are at most `at`.
 pub fn starts_up_to(starts: &[u32], at: u32) -> usize
     requires { IsStrictlyIncreasing starts.now }
@@ -60,7 +63,7 @@ pub fn built(alloc: Global, text: &[u8]) -> Result<Vec<u32>, AllocError>
     requires { length text.now < 2 ^ 31 }
     ensures { IfOk result (λ v. v.items ≡ line_starts text.now) }
 {
-    let mut starts = Vec::new(alloc);
+    let mut starts = Vec::with_capacity(alloc, 1 + text.len() / BYTES_OF_A_LINE)?;
     starts.push(0)?;
     push_starts(&mut starts, 0, text, &[])?;
     Ok(starts)
