@@ -1,6 +1,6 @@
 //! Parts of a program that are still to be read.
 
-ghost use Rattle.std.specs.Prelude.{◌≡◌, [], ◌∷◌, ◌++◌, MatchOption, OnOk};
+ghost use Rattle.std.specs.Prelude.{◌≡◌, [], ◌∷◌, ◌++◌, MatchOption, IfOk, OnOk};
 ghost use Rattle.srb_references.specs.Readings.{visit};
 ghost use Rattle.srb_references.specs.Visits.{seen_visit};
 
@@ -42,13 +42,14 @@ impl<'a> Model for Worklist<'a> {
 }
 
 impl<'a> Worklist<'a> {
-    /// The empty list. It takes no memory.
-    pub fn new(alloc: Global) -> Worklist<'a>
-        ensures { result ≡ [] }
+    /// The empty list, with room for as many parts.
+    pub fn with_room(alloc: Global, room: usize) -> Result<Worklist<'a>, NoMemory>
+        ensures { IfOk result (λ list. list ≡ []) }
     {
-        Worklist {
-            visits: Items::new(alloc),
-        }
+        let visits = Vec::with_capacity(alloc, room)?;
+        Ok(Worklist {
+            visits: Items::from_vec(visits),
+        })
     }
 
     /// Adds a part at the end.

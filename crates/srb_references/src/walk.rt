@@ -16,6 +16,9 @@ use rb_tree::syntax::Tree;
 use srb_terms::{Items, Names, NoMemory};
 use std::alloc::Global;
 
+/// For how many references, types and parts there is room from the start: more than most files have take more.
+const ROOM: usize = 128;
+
 /// What a program mentions. Neither order has a meaning.
 #[derive(Drop)]
 pub struct Mentions<'a> {
@@ -64,9 +67,9 @@ pub fn mentions_of<'a>(alloc: Global, tree: &'a Tree) -> Result<Mentions<'a>, No
     ensures references { IfOk result (λ m. m.references ≡ spec.references_of tree.now) }
     ensures types { IfOk result (λ m. map seen_visit m.types ≡ types.types_of tree.now) }
 {
-    let mut references = Items::new(alloc);
-    let mut types = Items::new(alloc);
-    let mut list = Worklist::new(alloc);
+    let mut references = Items::from_vec(Vec::with_capacity(alloc, ROOM)?);
+    let mut types = Items::from_vec(Vec::with_capacity(alloc, ROOM)?);
+    let mut list = Worklist::with_room(alloc, ROOM)?;
     list.push(Reading::Plain, &Names::new(), tree)?;
     'list: while let Some(visit) = list.pop() {
         with_own(alloc, &visit, &mut references)?;
