@@ -87,7 +87,7 @@ fn all_stay(statements: &[Tree]) -> bool
 fn rewritten(alloc: Global, statements: &[Tree]) -> Result<Items<Tree>, NoMemory>
     ensures { IfOk result (λ ts. ts ≡ spec.rewritten (λ s. s) spec.inner_of statements.now) }
 {
-    let mut so_far = Items::new(alloc);
+    let mut so_far = Items::from_vec(Vec::with_capacity(alloc, statements.len())?);
     let mut sig = None;
     'statements: for statement in statements {
         let inner = inner_of(alloc, statement)?;
@@ -177,7 +177,7 @@ fn inner_by_node(alloc: Global, statement: &Tree) -> Result<Tree, NoMemory>
 fn program(alloc: Global, statements: &[Tree]) -> Result<Items<Tree>, NoMemory>
     ensures { IfOk result (λ ts. ts ≡ map spec.inner_of statements.now) }
 {
-    let mut made = Items::new(alloc);
+    let mut made = Items::from_vec(Vec::with_capacity(alloc, statements.len())?);
     'statements: for statement in statements {
         made.push(inner_of(alloc, statement)?)?;
     }

@@ -29,7 +29,7 @@ use srb_declarations::declarations;
 use srb_infer::infer;
 use srb_judgement::errors::is_shown;
 use srb_language::ProjectLanguage;
-use srb_references::{malformed_types, mentions_of, unresolved};
+use srb_references::mention_errors;
 use srb_signatures::signature_errors;
 use srb_terms::{Diag, Items, Level, NoMemory, Steps, World};
 use std::alloc::{AllocError, Global};
@@ -68,20 +68,6 @@ fn add_conflicts(
     conflicts(alloc, world, declared.as_slice(), found)
 }
 
-/// Adds the errors of a program's references that stand for nothing, and of its malformed type expressions.
-fn add_mentioned(
-    alloc: Global,
-    world: &World,
-    tree: &Tree,
-    found: &mut Items<Diag>,
-) -> Result<(), NoMemory>
-    ensures { (fs : List Fact) → Stands world.now fs → OnOk result (found.new ≡ found.old ++ reference_errors fs (references_of tree.now) ++ malformed_errors (view_of fs) (types_of tree.now)) }
-{
-    let mentioned = mentions_of(alloc, tree)?;
-    unresolved(alloc, world, mentioned.references.as_slice(), found)?;
-    malformed_types(alloc, world, mentioned.types.as_slice(), found)
-}
-
 /// Adds the errors of a program's signatures at this level.
 fn add_signature_errors(
     alloc: Global,
@@ -106,7 +92,7 @@ fn symbol_errors(
 {
     let mut found = Items::new(alloc);
     add_conflicts(alloc, world, tree, &mut found)?;
-    add_mentioned(alloc, world, tree, &mut found)?;
+    mention_errors(alloc, world, tree, &mut found)?;
     add_signature_errors(alloc, level, tree, &mut found)?;
     Ok(found)
 }

@@ -104,7 +104,7 @@ fn check(
 }
 
 /// Adds an error for each reference that isn't found.
-fn check_each(
+pub fn check_each(
     alloc: Global,
     world: &World,
     references: &[Reference],

@@ -139,7 +139,7 @@ fn malformed_type(alloc: Global, tree: &Tree) -> Result<Diag, NoMemory>
 }
 
 /// Adds an error where a part is malformed.
-fn check<'a>(
+pub fn check<'a>(
     alloc: Global,
     world: &World,
     part: &Visit<'a>,

@@ -29,14 +29,18 @@ pub struct Mentions<'a> {
 }
 
 /// Adds the parts of a part that was taken out of the list.
-fn with_parts<'a>(alloc: Global, visit: &Visit<'a>, list: &mut Worklist<'a>) -> Result<(), NoMemory>
+pub fn with_parts<'a>(
+    alloc: Global,
+    visit: &Visit<'a>,
+    list: &mut Worklist<'a>,
+) -> Result<(), NoMemory>
     ensures { OnOk result (list.new ≡ list.old ++ readings.parts (λ x. x) visit.now.reading visit.now.scope (out-Node visit.now.tree.now.node)) }
 {
     parts(alloc, list, visit.reading, &visit.scope, visit.tree.get())
 }
 
 /// Whether a part is read as one of a type expression.
-fn is_type_part(reading: Reading) -> bool
+pub fn is_type_part(reading: Reading) -> bool
     ensures { result ≡ types.is_type_part reading }
 {
     match reading {

@@ -1,0 +1,17 @@
+use Rattle.std.proofs.Common.{◌≡◌, ◌++◌, length}
+use Rattle.std.specs.List.{flat_map}
+use Rattle.srb_sig.specs.Views.{view_at}
+use Rattle.srb_references.specs.MalformedTypes.{malformed_errors, own_types}
+use Rattle.srb_references.specs.References.{errors_by, found_at, own_references, row_visits, below, visits}
+use Rattle.srb_references.proofs.wrong.wrong.Given as goal
+
+abbrev pub decreases-list : goal.decreases-list
+decreases-list l = length (row_visits (λ x. x) below l.list)
+
+-- the errors found so far and those of all that is still to be read: of references, and of parts of type expressions
+abbrev pub invariant-list : goal.invariant-list
+invariant-list l =
+    (l.references ++ flat_map (λ v. errors_by (found_at l.world) (own_references v)) (row_visits (λ x. x) below l.list)
+    ≡ flat_map (λ v. errors_by (found_at l.world) (own_references v)) (visits l.fn.tree))
+    × (l.types ++ flat_map (λ v. malformed_errors (view_at l.world) (own_types v)) (row_visits (λ x. x) below l.list)
+    ≡ flat_map (λ v. malformed_errors (view_at l.world) (own_types v)) (visits l.fn.tree))
