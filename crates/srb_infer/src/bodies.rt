@@ -594,6 +594,23 @@ fn bodies_by_node<W: Walk, L: Language>(
     }
 }
 
+/// The number of statements of a program's body, for which there is room for what they assign.
+fn statements_of(tree: &Tree) -> usize {
+    match tree.get() {
+        Node::Body { statements, .. } => statements.len(),
+        _ => 0,
+    }
+}
+
+/// The state in which a body begins, with room for as many assignments. The list of them is long in a long program, and grows no more.
+fn begun(alloc: Global, room: usize) -> Result<State, NoMemory>
+    ensures { IfOk result (λ state. seen_state state ≡ bodies_spec.fresh) }
+{
+    let mut state = fresh(alloc);
+    state.assigned = Items::from_vec(Vec::with_capacity(alloc, room)?);
+    Ok(state)
+}
+
 /// The errors of the judgement of a program, by what judges its parts.
 fn program<W: Walk, L: Language>(
     alloc: Global,
@@ -604,7 +621,7 @@ fn program<W: Walk, L: Language>(
     ensures { IfOk result (λ errors. errors ≡ errors_of (L.the language.now) tree.now) }
 {
     let context = program_context(alloc, language)?;
-    let mut state = fresh(alloc);
+    let mut state = begun(alloc, statements_of(tree))?;
     walk.judge(alloc, language, &context, &mut state, tree)?;
     let State { mut errors, .. } = state;
     bodies(
