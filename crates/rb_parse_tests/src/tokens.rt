@@ -1,7 +1,7 @@
 //! Tokens: which a short text has, with their places, where others are refused, and the levels that texts ask for.
 
-use rb_lex::{LexEnd, level, lex};
-use rb_tree::token::TokenKind;
+use rb_lex::{LexEnd, Lexer, level, lex};
+use rb_tree::token::{Token, TokenKind};
 use srb_terms::Level;
 use srb_text::Text;
 use std::alloc::Global;
@@ -22,34 +22,59 @@ fn words_of(kind: &TokenKind) -> &str {
     }
 }
 
-// What `lex` answers: the shapes and words of the tokens, each with a `;` after it, or the refusal.
-fn told(alloc: Global, source: &str) -> Result<String, Fail> {
+// The shapes and words of tokens, each with a `;` after it.
+fn spelled(alloc: Global, tokens: &[Token]) -> Result<String, Fail> {
+    let mut out = String::new(alloc);
+    for token in tokens {
+        let words = words_of(&token.kind);
+        out.push_str(format!(in alloc; "{:?} {words}; ", token.kind.shape())?.as_str())?;
+    }
+    Ok(out)
+}
+
+fn refused(alloc: Global, end: LexEnd) -> Result<String, Fail> {
+    match end {
+        LexEnd::Bad { at } => Ok(format!(in alloc; "bad {at}")?),
+        LexEnd::Outside { at } => Ok(format!(in alloc; "outside {at}")?),
+        LexEnd::NoMemory => Err(Fail::from("no memory")),
+    }
+}
+
+fn text_of(alloc: Global, source: &str) -> Result<Text, Fail> {
     if source.len() > 1000 {
         return Err(Fail::from("long"));
     }
     match Text::from_bytes(alloc, source.as_bytes()) {
         Err(_) => Err(Fail::from("no text")),
-        Ok(text) => match lex(alloc, &text) {
-            Err(LexEnd::Bad { at }) => Ok(format!(in alloc; "bad {at}")?),
-            Err(LexEnd::Outside { at }) => Ok(format!(in alloc; "outside {at}")?),
-            Err(LexEnd::NoMemory) => Err(Fail::from("no memory")),
-            Ok(tokens) => {
-                let mut out = String::new(alloc);
-                for token in tokens.as_slice() {
-                    let words = words_of(&token.kind);
-                    out.push_str(format!(in alloc;
-                        "{:?} {words}; ",
-                        token.kind.shape()
-                    )?.as_str())?;
-                }
-                Ok(out)
-            }
-        },
+        Ok(text) => Ok(text),
+    }
+}
+
+// What `lex` answers: the tokens, or the refusal.
+fn told(alloc: Global, source: &str) -> Result<String, Fail> {
+    match lex(alloc, &text_of(alloc, source)?) {
+        Err(end) => refused(alloc, end),
+        Ok(tokens) => spelled(alloc, tokens.as_slice()),
+    }
+}
+
+// What a lexer answers that read other texts before.
+fn told_by(alloc: Global, lexer: &mut Lexer, source: &str) -> Result<String, Fail> {
+    match lexer.lex(alloc, &text_of(alloc, source)?) {
+        Err(end) => refused(alloc, end),
+        Ok(()) => spelled(alloc, lexer.tokens()),
     }
 }
 
 fn all_told<R: Abort + AllocGlobal>(rt: &R, cases: &[(&str, &str)]) -> Result<(), Fail> {
+    let mut lexer = Lexer::new(rt.alloc());
     for (source, expected) in cases {
+        let again = told_by(rt.alloc(), &mut lexer, source)?;
+        assert!(rt;
+            again.as_str() == *expected,
+            "{source}, with a lexer that was used: {}",
+            again.as_str()
+        );
         let answer = told(rt.alloc(), source)?;
         assert!(rt;
             answer.as_str() == *expected,

@@ -4,25 +4,26 @@ use crate::facts::facts_of;
 use rb_decl::parse;
 use rb_lex::lex;
 use rb_tree::syntax::Tree;
-use srb_references::{malformed_types, mentions_of};
+use srb_references::mention_errors;
 use srb_summary::summary;
 use srb_table::build;
 use srb_terms::Items;
 use srb_text::Text;
 use std::alloc::{AllocError, Global};
 
-/// How many type expressions of a tree are malformed, by the facts of a program.
-fn count_in(alloc: Global, text: &str, tree: &Tree) -> Result<usize, AllocError> {
+/// How many errors of this number what a tree mentions has, by the facts of a program.
+fn count_in(alloc: Global, text: &str, tree: &Tree, number: u32) -> Result<usize, AllocError> {
     let facts = facts_of(alloc, text)?;
     let world = build(alloc, &[summary(alloc, facts.as_slice())?])?;
-    let mentioned = mentions_of(alloc, tree)?;
     let mut found = Items::new(alloc);
-    malformed_types(alloc, &world, mentioned.types.as_slice(), &mut found)?;
-    Ok(found.len())
+    mention_errors(alloc, &world, tree, &mut found)?;
+    let mut errors = found.into_vec();
+    errors.retain(|error| error.number == number);
+    Ok(errors.len())
 }
 
-/// How many type expressions of a program are malformed; none where it can't be read.
-fn count(alloc: Global, text: &str) -> Result<usize, AllocError> {
+/// The same of a program; none where it can't be read.
+fn count(alloc: Global, text: &str, number: u32) -> Result<usize, AllocError> {
     if text.len() > 10_000 {
         return Ok(0);
     }
@@ -35,7 +36,7 @@ fn count(alloc: Global, text: &str) -> Result<usize, AllocError> {
     let Ok(tree) = parse(alloc, tokens.as_slice()) else {
         return Ok(0);
     };
-    count_in(alloc, text, &tree)
+    count_in(alloc, text, &tree, number)
 }
 
 #[test]
@@ -53,7 +54,22 @@ fn wrong_parts_are_malformed(rt: HostRuntime) -> Result<(), AllocError> {
         ("T.let(x, T.any(String, Missing))\nT.let(1)\nlet(1, 2)\n", 0),
         ("T.let(x, T.all(Comparable, Kernel))\n", 0),
     ] {
-        assert_eq!(rt; count(rt.alloc(), text)?, want);
+        assert_eq!(rt; count(rt.alloc(), text, 5004)?, want);
+    }
+    Ok(())
+}
+
+#[test]
+fn missing_constants_stand_beside_malformed_types(rt: HostRuntime) -> Result<(), AllocError> {
+    for (text, missing, malformed) in [
+        ("T.let(x, T.any(String, Missing))\nOther::Thing\n", 2, 0),
+        ("T.let(Missing, 1)\n", 1, 1),
+        ("class A < B\n  include C\n  D = 1\n  D\nend\nA\n", 2, 0),
+        ("class A::B\nend\n", 1, 0),
+        ("x = 1\n", 0, 0),
+    ] {
+        assert_eq!(rt; count(rt.alloc(), text, 5002)?, missing);
+        assert_eq!(rt; count(rt.alloc(), text, 5004)?, malformed);
     }
     Ok(())
 }

@@ -46,12 +46,16 @@ fn texts_that_differ_in_the_last_byte_are_not_equal(rt: HostRuntime) -> Result<(
         ("fifteen_bytes_x", "fifteen_bytes_y"),
         ("fourteen_bytes", "fourteen_bytes_"),
         ("", "a"),
+        ("", "\0"),
+        ("a", "a\0"),
+        ("a\0", "a\0\0"),
     ] {
         let one = Name::from_str(alloc, one)?;
         let other = Name::from_str(alloc, other)?;
         assert!(rt; !one.is_same(&other));
         assert!(rt; one.is_same(&one.copied()?));
         assert!(rt; one < other);
+        assert!(rt; !one.to_words()?.is_same(&other.to_words()?));
     }
     Ok(())
 }
