@@ -167,6 +167,20 @@ fn joined(alloc: Global, dir: &str, path: &str) -> Result<String, FilesEnd> {
     Ok(place)
 }
 
+// The file at a path below `dir`. Its whole path takes memory only while it is opened, so that no hole is left before the bytes that are read.
+fn opened<R: System + AllocGlobal + Clone + Drop>(
+    rt: &R,
+    alloc: Global,
+    dir: &str,
+    path: &str,
+) -> Result<R::File, FilesEnd> {
+    let place = joined(alloc, dir, path)?;
+    match fs::open(rt, place.as_str()) {
+        Ok(file) => Ok(file),
+        Err(error) => Err(end_of(error)),
+    }
+}
+
 fn first_bytes<R: System + AllocGlobal + Clone + Drop>(
     rt: &R,
     alloc: Global,
@@ -177,11 +191,7 @@ fn first_bytes<R: System + AllocGlobal + Clone + Drop>(
 ) -> Result<Vec<u8>, FilesEnd>
     ensures { IfOk result (λ bytes. vec_len bytes ≤ most) }
 {
-    let place = joined(alloc, dir, path)?;
-    let mut file = match fs::open(rt, place.as_str()) {
-        Ok(file) => file,
-        Err(error) => return Err(end_of(error)),
-    };
+    let mut file = opened(rt, alloc, dir, path)?;
     if chunk.is_empty() {
         *chunk = vec![in alloc; 0u8; CHUNK]?;
     }

@@ -1,5 +1,7 @@
 -- In a table that stands for some facts a reference is found as by the facts.
-use Rattle.std.proofs.Common.{◌≡◌, ℕ, List, [], ◌∷◌, ap, if◌then◌else◌}
+use Rattle.std.proofs.Common.{◌≡◌, ℕ, List, [], ◌∷◌, ◌++◌, ap, sym, ◌∙◌, refl, if◌then◌else◌}
+use Rattle.std.proofs.lemmas.Grind.{flat_map-append}
+use Rattle.std.specs.List.{flat_map}
 use Rattle.std.specs.Option.{unwrap_or}
 use Rattle.srb_terms.specs.Worlds.{kind_at, within_at}
 use Rattle.srb_terms.specs.declared.fact.Fact.{Fact}
@@ -12,7 +14,11 @@ use Rattle.srb_rules.specs.Parents.{alone_by}
 use Rattle.srb_rules.specs.Resolves.{ancestors, resolves}
 use Rattle.srb_rules.specs.Standing.{Stands, ancestors_at, resolved_at}
 use Rattle.srb_references.specs.declared.reference.Reference.{Reference}
-use Rattle.srb_references.specs.References.{is_wanted, is_found, found_at, errors_by, reference_errors}
+use Rattle.rb_tree.specs.declared.syntax.Tree.{Tree}
+use Rattle.srb_sig.specs.Views.{view_at, view_of}
+use Rattle.srb_sig.proofs.Views.{view-stands}
+use Rattle.srb_references.specs.MalformedTypes as types
+use Rattle.srb_references.specs.References.{is_wanted, is_found, found_at, error_by, errors_by, reference_errors, own_references, own_errors, references_of, visits}
 
 -- ---- constants
 
@@ -41,3 +47,19 @@ found-stands w fs s r = λ i. is_wanted (λ c. s.kinds c i) r.wants_body (resolv
 pub errors-stand : (w : World) (fs : List Fact) → Stands w fs → (rs : List Reference) → errors_by (found_at w) rs ≡ reference_errors fs rs
 unfolding reference_errors
 errors-stand w fs s rs = λ i. errors_by (λ r. found-stands w fs s r i) rs
+
+-- ---- what a program mentions
+
+-- what is found in rows that are joined is what is found in each row, joined
+joined-rows : {A B C : Type 0} (f : B → List C) (row : A → List B) (xs : List A) → flat_map (λ x. flat_map f (row x)) xs ≡ flat_map f (flat_map row xs)
+joined-rows f row [] = refl
+joined-rows f row (x ∷ xs) = ap (λ r. flat_map f (row x) ++ r) (joined-rows f row xs) ∙ sym (flat_map-append f (row x) (flat_map row xs))
+
+pub mentions-stand : (w : World) (fs : List Fact) → Stands w fs → (t : Tree) →
+    flat_map (own_errors (found_at w)) (visits t) ++ flat_map (types.own_errors (view_at w)) (visits t)
+    ≡ reference_errors fs (references_of t) ++ types.malformed_errors (view_of fs) (types.types_of t)
+unfolding references_of types.types_of
+mentions-stand w fs s t = λ i.
+    (joined-rows (error_by (found_at w)) own_references (visits t) ∙ errors-stand w fs s (flat_map own_references (visits t))) i
+    ++ (joined-rows (types.malformed_errors_of (view_at w)) types.own_types (visits t)
+    ∙ ap (λ v. types.malformed_errors v (flat_map types.own_types (visits t))) (view-stands w fs s)) i

@@ -86,3 +86,7 @@ malformed_errors_of v p = if is_malformed v p then malformed_type p.part ∷ [] 
 -- the errors of malformed type expressions, of these parts
 abbrev pub malformed_errors : View → List (Visit Tree) → List Diag
 malformed_errors v parts = flat_map (malformed_errors_of v) parts
+
+-- the error of a part itself, if it is a malformed type expression
+abbrev pub own_errors : View → Visit Tree → List Diag
+own_errors v p = malformed_errors v (own_types p)

@@ -133,6 +133,10 @@ error_by finds r = if finds r then [] else not_found r ∷ []
 abbrev pub errors_by : (Reference → Bool) → List Reference → List Diag
 errors_by finds references = flat_map (error_by finds) references
 
+-- the errors of the references of a part itself
+abbrev pub own_errors : (Reference → Bool) → Visit Tree → List Diag
+own_errors finds v = errors_by finds (own_references v)
+
 -- whether the name for which a reference stands is one that is wanted: any, or a class or module
 abbrev pub is_wanted : (List ℕ → Option Kind) → Bool → Option (List ℕ) → Bool
 is_wanted kinds body None = false

@@ -1,6 +1,7 @@
 //! The errors of what a program mentions, in one walk.
 
 ghost use Rattle.std.specs.Prelude.{◌≡◌, ◌++◌, List, IfOk, OnOk};
+ghost use Rattle.std.specs.List.{flat_map};
 ghost use Rattle.rb_tree.specs.declared.syntax.Node.{out-Node};
 ghost use Rattle.srb_references.specs.MalformedTypes as types;
 ghost use Rattle.srb_references.specs.References as spec;
@@ -37,7 +38,7 @@ fn check_references<'a>(
     visit: &Visit<'a>,
     found: &mut Items<Diag>,
 ) -> Result<(), NoMemory>
-    ensures { OnOk result (found.new ≡ found.old ++ spec.errors_by (spec.found_at world.now) (spec.own_references (seen_visit visit.now))) }
+    ensures { OnOk result (found.new ≡ found.old ++ spec.own_errors (spec.found_at world.now) (seen_visit visit.now)) }
 {
     let mut own = Items::new(alloc);
     with_own(alloc, visit, &mut own)?;
@@ -51,7 +52,7 @@ fn check_type<'a>(
     visit: &Visit<'a>,
     found: &mut Items<Diag>,
 ) -> Result<(), NoMemory>
-    ensures { OnOk result (found.new ≡ found.old ++ types.malformed_errors (view_at world.now) (types.own_types (seen_visit visit.now))) }
+    ensures { OnOk result (found.new ≡ found.old ++ types.own_errors (view_at world.now) (seen_visit visit.now)) }
 {
     if is_type_part(visit.reading) {
         malformed::check(alloc, world, visit, found)
@@ -61,10 +62,9 @@ fn check_type<'a>(
 }
 
 /// What is wrong with what a program mentions, by what the table holds.
-#[tactic(auto, unfolding(crate::specs::References::references_of, crate::specs::MalformedTypes::types_of))]
 fn wrong<'a>(alloc: Global, world: &World, tree: &'a Tree) -> Result<Wrong, NoMemory>
-    ensures references { IfOk result (λ m. m.references ≡ spec.errors_by (spec.found_at world.now) (spec.references_of tree.now)) }
-    ensures types { IfOk result (λ m. m.types ≡ types.malformed_errors (view_at world.now) (types.types_of tree.now)) }
+    ensures references { IfOk result (λ m. m.references ≡ flat_map (spec.own_errors (spec.found_at world.now)) (spec.visits tree.now)) }
+    ensures types { IfOk result (λ m. m.types ≡ flat_map (types.own_errors (view_at world.now)) (spec.visits tree.now)) }
 {
     let mut references = Items::new(alloc);
     let mut types = Items::new(alloc);
@@ -78,6 +78,20 @@ fn wrong<'a>(alloc: Global, world: &World, tree: &'a Tree) -> Result<Wrong, NoMe
     Ok(Wrong { references, types })
 }
 
+/// Adds what is wrong with what a program mentions, by what the table holds.
+fn add_wrong(
+    alloc: Global,
+    world: &World,
+    tree: &Tree,
+    found: &mut Items<Diag>,
+) -> Result<(), NoMemory>
+    ensures { OnOk result (found.new ≡ found.old ++ (flat_map (spec.own_errors (spec.found_at world.now)) (spec.visits tree.now) ++ flat_map (types.own_errors (view_at world.now)) (spec.visits tree.now))) }
+{
+    let wrong = wrong(alloc, world, tree)?;
+    found.append(wrong.references)?;
+    found.append(wrong.types)
+}
+
 /// Adds the errors of a program's references that stand for nothing, as `unresolved` tells them, and those of its malformed type
 /// expressions, as `malformed_types` tells them. Where the table stands for some facts, these are the errors that the rules give by these
 /// facts. Nothing that the program mentions is kept.
@@ -87,9 +101,7 @@ pub fn mention_errors(
     tree: &Tree,
     found: &mut Items<Diag>,
 ) -> Result<(), NoMemory>
-    ensures { (fs : List Fact) → Stands world.now fs → OnOk result (found.new ≡ found.old ++ spec.reference_errors fs (spec.references_of tree.now) ++ types.malformed_errors (view_of fs) (types.types_of tree.now)) }
+    ensures { (fs : List Fact) → Stands world.now fs → OnOk result (found.new ≡ found.old ++ (spec.reference_errors fs (spec.references_of tree.now) ++ types.malformed_errors (view_of fs) (types.types_of tree.now))) }
 {
-    let Wrong { references, types } = wrong(alloc, world, tree)?;
-    found.append(references)?;
-    found.append(types)
+    add_wrong(alloc, world, tree, found)
 }
