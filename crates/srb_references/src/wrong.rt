@@ -62,7 +62,7 @@ fn check_type<'a>(
 }
 
 /// What is wrong with what a program mentions, by what the table holds.
-fn wrong<'a>(alloc: Global, world: &World, tree: &'a Tree) -> Result<Wrong, NoMemory>
+fn wrong_of<'a>(alloc: Global, world: &World, tree: &'a Tree) -> Result<Wrong, NoMemory>
     ensures references { IfOk result (λ m. m.references ≡ flat_map (spec.own_errors (spec.found_at world.now)) (spec.visits tree.now)) }
     ensures types { IfOk result (λ m. m.types ≡ flat_map (types.own_errors (view_at world.now)) (spec.visits tree.now)) }
 {
@@ -87,7 +87,7 @@ fn add_wrong(
 ) -> Result<(), NoMemory>
     ensures { OnOk result (found.new ≡ found.old ++ (flat_map (spec.own_errors (spec.found_at world.now)) (spec.visits tree.now) ++ flat_map (types.own_errors (view_at world.now)) (spec.visits tree.now))) }
 {
-    let wrong = wrong(alloc, world, tree)?;
+    let wrong = wrong_of(alloc, world, tree)?;
     found.append(wrong.references)?;
     found.append(wrong.types)
 }

@@ -26,7 +26,7 @@ fn copied_outlines(alloc: Global, outlines: &[Outline]) -> Result<Items<Outline>
     ensures { IfOk result (λ os. os ≡ outlines.now) }
 {
     let mut copies = Vec::with_capacity(alloc, outlines.len())?;
-    for outline in outlines {
+    'outlines: for outline in outlines {
         copies.push(copied_outline(alloc, outline)?)?;
     }
     Ok(Items::from_vec(copies))

@@ -3,7 +3,7 @@ use Rattle.std.specs.List.{flat_map}
 use Rattle.srb_sig.specs.Views.{view_at}
 use Rattle.srb_references.specs.MalformedTypes as types
 use Rattle.srb_references.specs.References.{own_errors, found_at, row_visits, below, visits}
-use Rattle.srb_references.proofs.wrong.wrong.Given as goal
+use Rattle.srb_references.proofs.wrong.wrong_of.Given as goal
 
 abbrev pub decreases-list : goal.decreases-list
 decreases-list l = length (row_visits (λ x. x) below l.list)

@@ -5,7 +5,7 @@ use Rattle.srb_references.specs.MalformedTypes as types
 use Rattle.srb_references.specs.References.{own_errors, found_at, row_visits, below}
 use Rattle.srb_references.specs.Visits.{seen_visit}
 use Rattle.srb_references.proofs.Equations.{falls, keeps}
-use Rattle.srb_references.proofs.wrong.wrong.Goals as goal
+use Rattle.srb_references.proofs.wrong.wrong_of.Goals as goal
 
 pub list-smaller : goal.list-smaller
 list-smaller c = falls c.list.list c.pop.new.self c.with_parts.new.list (seen_visit c.in-Some.visit) c.in-Some.ensures c.in_ok-with_parts.ensures
