@@ -203,6 +203,10 @@ fn item<'a>(alloc: Global, depth: usize, long: bool, tokens: &'a [Token]) -> Rea
     }
 }
 
+/// For how many statements of a body there is room from the start. As the list of them grows it gives back pieces of memory of 6, 12 and 24
+/// places, which nodes of trees and their rows fill up; pieces of 8 and 16 places would leave a hole in each file.
+const ROOM: usize = 6;
+
 /// The statements up to the end of a body.
 #[cycle(items)]
 pub fn statements<'a>(
@@ -213,7 +217,7 @@ pub fn statements<'a>(
 ) -> Read<'a, Items<Tree>>
     ensures { Gives (λ x. (x.0, x.1.now)) result (spec.statements (spec.item depth long) depth tokens.now) }
 {
-    let mut found = Items::new(alloc);
+    let mut found = Items::from_vec(Vec::with_capacity(alloc, ROOM)?);
     let mut rest = skip_separators(tokens);
     for _turn in 0..depth {
         if ends(rest) {
