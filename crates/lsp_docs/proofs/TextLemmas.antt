@@ -3,9 +3,8 @@ use Rattle.std.proofs.Common.{◌≡◌, ℕ, ◌+◌, ◌-◌, ◌<◌, ◌≤�
 use Rattle.std.specs.Prelude.{Option, Some, None, Result, Ok, Err, IfSome, IfOk, OnOk, IfErr, unwrap_or, if◌then◌else◌}
 use Rattle.std.specs.Option.{option_copied}
 use Rattle.std.specs.Borrow.{Bor}
-use Rattle.std.specs.Str.{IsUtf8, IsValidUpTo, chars, is_utf8, encode_utf8_all, all_scalars}
+use Rattle.std.specs.Str.{IsUtf8, chars, is_utf8, encode_utf8_all, all_scalars}
 use Rattle.std.proofs.lemmas.Bool.{le-ltb, lt-ltb}
-use Rattle.std.proofs.lemmas.List.{take_all}
 use Rattle.std.proofs.lemmas.Str.{IsUtf8-from_is_utf8, is_utf8-from_IsUtf8, encodes-chars, chars_from_encodes}
 use Rattle.srb_text.specs.Edits.{edited}
 use Rattle.srb_text.specs.Laws.{EditsHaveSizes}
@@ -37,10 +36,6 @@ no_utf8 false bytes is not = refl
 
 pub text_of_other : (bytes : List ℕ) → ¬ (IsUtf8 bytes) → text_of bytes ≡ []
 text_of_other bytes not = by_test false bytes (no_utf8 (is_utf8 bytes) bytes refl not)
-
--- bytes with a longest front that is text are none
-pub no_text : (bytes : List ℕ) (at : ℕ) → IsValidUpTo bytes at → ¬ (IsUtf8 bytes)
-no_text bytes at valid text = valid.longest (length bytes) valid.short (subst IsUtf8 (sym (take_all (length bytes) bytes (omega arith))) text)
 
 pub spelled_back : (text : List ℕ) → all_scalars text ≡ true → chars (encode_utf8_all text) ≡ text
 spelled_back text scalars = sym (chars_from_encodes text (encode_utf8_all text) (text, (scalars, refl)) refl)
