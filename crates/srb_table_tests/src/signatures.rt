@@ -2,8 +2,8 @@
 
 use srb_sig::{SigEnd, TyEnd, read_sig, read_type, wrong_parts};
 use srb_terms::{
-    Items, Kind, Label, Name, Names, NoMemory, NodeKind, Outline, ParamKind, ParamShape,
-    SigText, TyText, Words, World,
+    Items, Kind, Label, Name, Names, NoMemory, NodeKind, Outline, ParamKind, ParamShape, SigText,
+    TyText, Words, World,
 };
 use srb_types::show;
 use std::alloc::Global;

@@ -3,8 +3,8 @@
 use srb_summary::Summary;
 use srb_table::world_of;
 use srb_terms::{
-    Fact, Given, How, Items, Kind, Label, Name, Names, NoMemory, NodeKind, Outline,
-    ParamKind, ParamShape, Shapes, SigText, Ty, TyText, Words, World,
+    Fact, Given, How, Items, Kind, Label, Name, Names, NoMemory, NodeKind, Outline, ParamKind,
+    ParamShape, Shapes, SigText, Ty, TyText, Words, World,
 };
 use std::alloc::Global;
 
