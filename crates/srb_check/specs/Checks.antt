@@ -6,7 +6,6 @@ use Rattle.srb_terms.specs.declared.diag.Diag.{Diag}
 use Rattle.srb_terms.specs.declared.fact.Fact.{Fact}
 use Rattle.srb_terms.specs.declared.level.Level.{Level}
 use Rattle.srb_terms.specs.Projects.{File, bytes_at}
-use Rattle.rb_tree.specs.declared.syntax.Tree.{Tree}
 use Rattle.rb_lex.specs.Levels.{level_of_text}
 use Rattle.srb_check.specs.declared.reading.Reading.{Reading}
 use Rattle.srb_check.specs.declared.reading.Reading.TheVariants.{Program, Refused}

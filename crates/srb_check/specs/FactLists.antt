@@ -1,5 +1,5 @@
 -- Whether two lists of facts are equal.
-use Rattle.std.specs.Prelude.{ℕ, ◌==◌, Bool, true, false, ◌&&◌, List}
+use Rattle.std.specs.Prelude.{◌==◌, Bool, true, false, ◌&&◌, List}
 use Rattle.std.specs.Coded.{coded_list}
 use base.Stored.{Gv, gnil, gnum, gcons}
 use Rattle.srb_terms.specs.contracts.fact.Fact as fact
