@@ -12,7 +12,7 @@ use srb_text::Text;
 use std::alloc::{AllocError, Global};
 
 /// How many errors of this number what a tree mentions has, by the facts of a program.
-fn count_in(alloc: Global, text: &str, tree: &Tree, number: u32) -> Result<usize, AllocError> {
+fn count_in(alloc: Global, text: &str, tree: &Tree, number: u16) -> Result<usize, AllocError> {
     let facts = facts_of(alloc, text)?;
     let world = build(alloc, &[summary(alloc, facts.as_slice())?])?;
     let mut found = Items::new(alloc);
@@ -23,7 +23,7 @@ fn count_in(alloc: Global, text: &str, tree: &Tree, number: u32) -> Result<usize
 }
 
 /// The same of a program; none where it can't be read.
-fn count(alloc: Global, text: &str, number: u32) -> Result<usize, AllocError> {
+fn count(alloc: Global, text: &str, number: u16) -> Result<usize, AllocError> {
     if text.len() > 10_000 {
         return Ok(0);
     }
