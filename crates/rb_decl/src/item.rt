@@ -204,7 +204,7 @@ fn item<'a>(alloc: Global, depth: usize, long: bool, tokens: &'a [Token]) -> Rea
 }
 
 /// For how many statements of a body there is room from the start. As the list of them grows it gives back pieces of memory of 6, 12 and 24
-/// places, which nodes of trees and their rows fill up; pieces of 8 and 16 places would leave a hole in each file.
+/// places, which nodes of trees and their rows mostly fill; pieces of 8 and 16 places leave a hole in more files.
 const ROOM: usize = 6;
 
 /// The statements up to the end of a body.

@@ -16,7 +16,7 @@ use rb_tree::syntax::Tree;
 use srb_terms::{Items, Names, NoMemory};
 use std::alloc::Global;
 
-/// For how many references, types and parts there is room from the start: more than most files have take more.
+/// For how many references, types and parts there is room from the start: most files have fewer of each.
 const ROOM: usize = 128;
 
 /// What a program mentions. Neither order has a meaning.
