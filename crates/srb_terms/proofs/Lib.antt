@@ -1,3 +1,4 @@
 pub mod Filled
 pub mod PathOrder
+pub mod Rooms
 pub mod WorldNames

@@ -1,5 +1,6 @@
-ghost use Rattle.std.specs.Prelude.{◌≡◌, ◌≤◌, ◌↔◌, ℕ, List, length, nat_eq, IsTrue, IfOk, string_bytes};
+ghost use Rattle.std.specs.Prelude.{◌≡◌, ◌≤◌, ◌↔◌, ℕ, List, length, take, drop, nat_eq, bytes_eq, IsTrue, IfOk, string_bytes};
 ghost use Rattle.std.specs.Cmp.Lexicographic.{pointwise};
+ghost use Rattle.std.specs.Int.{w64, from_le_bytes, to_le_bytes};
 ghost use Rattle.srb_terms.specs.Spellings.{IsHeld, held};
 
 use crate::NoMemory;
@@ -30,6 +31,24 @@ enum Bytes {
     Short { len: u8, bytes: [u8; 14] },
     /// On the heap.
     Long(ArcStr),
+}
+
+/// Eight bytes of a room as a number, from a place on.
+fn word(room: &[u8; 14], at: usize) -> u64
+    requires { at ≤ 6 }
+    ensures value { result ≡ from_le_bytes w64 (take 8 (drop at room.now)) }
+    ensures bytes { to_le_bytes w64 result ≡ take 8 (drop at room.now) }
+{
+    let mut word = [0; 8];
+    word.copy_from_slice(&room[at..at + 8]);
+    u64::from_le_bytes(word)
+}
+
+/// Whether the bytes in two rooms are the same. Two words, which overlap, cover a room.
+fn are_same(a: &[u8; 14], b: &[u8; 14]) -> bool
+    ensures { result ≡ bytes_eq a.now b.now }
+{
+    word(a, 0) == word(b, 0) && word(a, 6) == word(b, 6)
 }
 
 impl Model for Spelling {
@@ -105,7 +124,7 @@ impl Spelling {
                     len: others,
                     bytes: other,
                 },
-            ) => *len == *others && bytes[..] == other[..],
+            ) => *len == *others && are_same(bytes, other),
             _ => self.as_str() == other.as_str(),
         }
     }

@@ -16,7 +16,7 @@ returns-then-len-others c =
     let one : take m x ≡ c.args.self.now = sym (ap held c.in-Short-Short.is-0) ∙ c.self.view_is in
     let two : take n y ≡ c.args.other.now = sym (ap held c.in-Short-Short.is-1) ∙ c.other.view_is in
     let yes : nat_eq m n ≡ true = (Decides-eqb m n).1 c.if-len-others.true in
-    c.eq.ensures ∙ sym (ap (λ s. s && bytes_eq x y) yes)
+    c.are_same.ensures ∙ sym (ap (λ s. s && bytes_eq x y) yes)
     ∙ same_filled m n x y a.0 b.0 a.1.1.0 b.1.1.0 a.1.1.1 b.1.1.1 ∙ (λ i. bytes_eq (one i) (two i))
 
 pub returns-else-len-others : goal.returns-else-len-others
