@@ -1,2 +1,4 @@
 pub mod Bodies
 pub mod Objects
+pub mod Puts
+pub mod ReadBack

@@ -9,7 +9,7 @@ use Rattle.lsp_msg.specs.declared.id.Id.TheVariants.{Number, Text}
 use Rattle.lsp_msg.specs.declared.out.Out.{Out}
 use Rattle.lsp_msg.specs.declared.out.Out.TheVariants.{Initialized, Null, Error, Log, List as Publish}
 use Rattle.lsp_msg.specs.declared.placed.Placed.{Placed}
-use Rattle.lsp_msg.specs.Written.{id_data, optional_id, error_object, result_message, error_message, notification, sync_options, capabilities, initialize_result, log_params, position_object, range_object, item_object, list_params, object_of}
+use Rattle.lsp_msg.specs.Written.{id_data, optional_id, error_object, result_message, error_message, notification, sync_options, capabilities, initialize_result, log_params, position_object, range_object, item_object, list_params, list_object, object_of}
 
 integer_is_no_float : (z : ℤ) → is_float (of_integer z) ≡ false
 integer_is_no_float (pos n) = refl
@@ -30,7 +30,7 @@ items_have_no_float (placed ∷ items) = items_have_no_float items
 
 -- no object has a float
 pub object_has_no_float : (out : Out) → has_float (object_of out) ≡ false
-unfolding object_of error_object result_message error_message notification sync_options capabilities initialize_result log_params list_params
+unfolding object_of error_object result_message error_message notification sync_options capabilities initialize_result log_params list_params list_object
 object_has_no_float (Initialized id encoding) = rw (id_has_no_float id)
 object_has_no_float (Null id) = rw (id_has_no_float id)
 object_has_no_float (Error id code) = rw (integer_is_no_float code, optional_id_has_no_float id)
@@ -52,7 +52,7 @@ items_are_shallow (placed ∷ items) = let rest = items_are_shallow items in ome
 
 -- no object is deeper than what is read back
 pub object_is_shallow : (out : Out) → depth (object_of out) ≤ 127
-unfolding object_of error_object result_message error_message notification sync_options capabilities initialize_result log_params list_params
+unfolding object_of error_object result_message error_message notification sync_options capabilities initialize_result log_params list_params list_object
 object_is_shallow (Initialized id encoding) = rw (id_is_flat id) (omega arith)
 object_is_shallow (Null id) = rw (id_is_flat id) (omega arith)
 object_is_shallow (Error id code) = rw (optional_id_is_flat id) (omega arith)

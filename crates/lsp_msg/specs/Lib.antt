@@ -3,3 +3,4 @@ pub mod Params
 pub mod Encodings
 pub mod Decoded
 pub mod Written
+pub mod Tokens

@@ -131,6 +131,11 @@ list_params uri epoch items =
     (member (codes "epoch") (count epoch)
     (member (codes "uri") (text uri) no_members)))
 
+-- the notification of a list
+unfoldable pub list_object : List ℕ → ℕ → List Placed → Data
+list_object uri epoch items =
+    notification (codes "textDocument/publishDiagnostics") (list_params uri epoch (array (items_of (map item_object items))))
+
 -- ---- what the server says
 
 -- the object of a message
@@ -139,8 +144,7 @@ object_of (Initialized id encoding) = result_message (id_data id) (initialize_re
 object_of (Null id) = result_message (id_data id) null
 object_of (Error id code) = error_message (optional_id id) (error_object code)
 object_of (Log method reason) = notification (codes "window/logMessage") (log_params (log_text method reason))
-object_of (Publish uri epoch items) =
-    notification (codes "textDocument/publishDiagnostics") (list_params uri epoch (array (items_of (map item_object items))))
+object_of (Publish uri epoch items) = list_object uri epoch items
 
 -- the body of a message: its object without blanks
 unfoldable pub body_of : Out → List ℕ

@@ -6,13 +6,15 @@
 //!
 //! `decode` answers, for every body, what the definition `decoded` says of it: the first case that fits. `encode` writes
 //! exactly the body `body_of` of a message, the compact text of its object `object_of`, and what it writes is read back
-//! as that object. Both may want memory, and have no other refusal.
+//! as that object. A list of errors is written token by token, and of each other message the object is built first. Both
+//! may want memory, and have no other refusal.
 #![tactic(auto)]
 
 mod change;
 mod encodings;
 mod error_code;
 mod id;
+mod lists;
 mod msg;
 mod out;
 mod params;

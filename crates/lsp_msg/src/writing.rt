@@ -1,16 +1,16 @@
-ghost use Rattle.std.specs.Prelude.{◌≡◌, List, ◌∷◌, [], codes, map, Some, IfOk, IsUtf8};
-ghost use Rattle.serde_json.specs.Data.{Data, array, null};
+ghost use Rattle.std.specs.Prelude.{◌≡◌, Some, IfOk, IsUtf8};
 ghost use Rattle.serde_json.specs.Read.{read};
-ghost use Rattle.serde_json.specs.View.{view, items_of};
-ghost use Rattle.lsp_msg.specs.Written.{id_data, optional_id, error_text, error_object, result_message, error_message, notification, sync_options, capabilities, initialize_result, reason_text, log_text, log_params, position_object, range_object, item_object, list_params, object_of, body_of};
+ghost use Rattle.serde_json.specs.View.{view};
+ghost use Rattle.lsp_msg.specs.Written.{id_data, optional_id, error_text, error_object, result_message, error_message, notification, sync_options, capabilities, initialize_result, reason_text, log_text, log_params, object_of, body_of};
 
 use crate::encodings::encoding_name;
+use crate::lists::list_body;
 use crate::{
-    INVALID_PARAMS, Id, METHOD_NOT_FOUND, Out, PARSE_ERROR, Placed, Reason, SERVER_NOT_INITIALIZED,
+    INVALID_PARAMS, Id, METHOD_NOT_FOUND, Out, PARSE_ERROR, Reason, SERVER_NOT_INITIALIZED,
 };
 use serde_json::{Value, json};
 use srb_terms::{NoMemory, Words};
-use srb_text::{Encoding, Pos};
+use srb_text::Encoding;
 use std::alloc::Global;
 
 /// The body of a frame that says `out`: its JSON in UTF-8, without blanks, with the members of each object in the byte
@@ -22,33 +22,55 @@ pub fn encode(alloc: Global, out: &Out) -> Result<Vec<u8>, NoMemory>
     ensures utf8 { IfOk result (λ body. IsUtf8 body.items) }
     ensures reads_back { IfOk result (λ body. read body.items ≡ Some (object_of out.now)) }
 {
-    object(alloc, out)?.to_vec(alloc)
+    match out {
+        Out::Initialized { id, encoding } => bytes_of(alloc, initialized(alloc, id, *encoding)?),
+        Out::Null { id } => bytes_of(alloc, null_reply(alloc, id)?),
+        Out::Error { id, code } => bytes_of(alloc, error_reply(alloc, id, *code)?),
+        Out::Log { method, reason } => bytes_of(alloc, log_message(alloc, method, *reason)?),
+        Out::List { uri, epoch, items } => list_body(alloc, uri, *epoch, items.as_slice()),
+    }
+}
+
+// The bytes of a value. Where it is the object of a message, they are the body of that message.
+fn bytes_of(alloc: Global, object: Value) -> Result<Vec<u8>, NoMemory>
+    ensures body { IfOk result (λ body. (out : Out) → view object ≡ object_of out → body.items ≡ body_of out) }
+    ensures utf8 { IfOk result (λ body. IsUtf8 body.items) }
+    ensures reads_back { IfOk result (λ body. (out : Out) → view object ≡ object_of out → read body.items ≡ Some (object_of out)) }
+{
+    object.to_vec(alloc)
+}
+
+// ---- the objects of messages
+
+#[tactic(auto, unfolding(crate::specs::Written::object_of))]
+fn initialized(alloc: Global, id: &Id, encoding: Encoding) -> Result<Value, NoMemory>
+    ensures { IfOk result (λ value. view value ≡ object_of (Out.Initialized id.now encoding)) }
+{
+    let id = id_value(alloc, id)?;
+    result_message(alloc, id, initialize_result(alloc, encoding)?)
 }
 
 #[tactic(auto, unfolding(crate::specs::Written::object_of))]
-fn object(alloc: Global, out: &Out) -> Result<Value, NoMemory>
-    ensures { IfOk result (λ value. view value ≡ object_of out.now) }
+fn null_reply(alloc: Global, id: &Id) -> Result<Value, NoMemory>
+    ensures { IfOk result (λ value. view value ≡ object_of (Out.Null id.now)) }
 {
-    match out {
-        Out::Initialized { id, encoding } => {
-            let id = id_value(alloc, id)?;
-            result_message(alloc, id, initialize_result(alloc, *encoding)?)
-        }
-        Out::Null { id } => result_message(alloc, id_value(alloc, id)?, Value::Null),
-        Out::Error { id, code } => {
-            let id = optional_id(alloc, id)?;
-            error_message(alloc, id, error_object(alloc, *code)?)
-        }
-        Out::Log { method, reason } => {
-            let text = log_text(alloc, method, *reason)?;
-            notification(alloc, "window/logMessage", log_params(alloc, &text)?)
-        }
-        Out::List { uri, epoch, items } => {
-            let items = item_list(alloc, items.as_slice())?;
-            let params = list_params(alloc, uri, *epoch, items)?;
-            notification(alloc, "textDocument/publishDiagnostics", params)
-        }
-    }
+    result_message(alloc, id_value(alloc, id)?, Value::Null)
+}
+
+#[tactic(auto, unfolding(crate::specs::Written::object_of))]
+fn error_reply(alloc: Global, id: &Option<Id>, code: i32) -> Result<Value, NoMemory>
+    ensures { IfOk result (λ value. view value ≡ object_of (Out.Error id.now code)) }
+{
+    let id = optional_id(alloc, id)?;
+    error_message(alloc, id, error_object(alloc, code)?)
+}
+
+#[tactic(auto, unfolding(crate::specs::Written::object_of))]
+fn log_message(alloc: Global, method: &Words, reason: Reason) -> Result<Value, NoMemory>
+    ensures { IfOk result (λ value. view value ≡ object_of (Out.Log method.now reason)) }
+{
+    let text = log_text(alloc, method, reason)?;
+    notification(alloc, "window/logMessage", log_params(alloc, &text)?)
 }
 
 // ---- ids, replies and notifications
@@ -169,53 +191,4 @@ fn log_params(alloc: Global, message: &Words) -> Result<Value, NoMemory>
     ensures { IfOk result (λ value. view value ≡ log_params message.now) }
 {
     json!(in alloc; {"message": message.as_str(), "type": 1u64})
-}
-
-// ---- lists of errors
-
-#[tactic(auto, unfolding(crate::specs::Written::position_object))]
-fn position_object(alloc: Global, position: Pos) -> Result<Value, NoMemory>
-    ensures { IfOk result (λ value. view value ≡ position_object position) }
-{
-    json!(in alloc; {"character": position.unit, "line": position.line})
-}
-
-#[tactic(auto, unfolding(crate::specs::Written::range_object))]
-fn range_object(alloc: Global, from: Pos, to: Pos) -> Result<Value, NoMemory>
-    ensures { IfOk result (λ value. view value ≡ range_object from to) }
-{
-    let start = position_object(alloc, from)?;
-    let end = position_object(alloc, to)?;
-    json!(in alloc; {"end": end, "start": start})
-}
-
-#[tactic(auto, unfolding(crate::specs::Written::item_object))]
-fn item_object(alloc: Global, placed: &Placed) -> Result<Value, NoMemory>
-    ensures { IfOk result (λ value. view value ≡ item_object placed.now) }
-{
-    let range = range_object(alloc, placed.start, placed.end)?;
-    json!(in alloc; {
-        "code": placed.number,
-        "message": placed.text.as_str(),
-        "range": range,
-        "severity": 1u64,
-        "source": "srb"
-    })
-}
-
-fn item_list(alloc: Global, items: &[Placed]) -> Result<Value, NoMemory>
-    ensures { IfOk result (λ value. view value ≡ array (items_of (map item_object items.now))) }
-{
-    let mut values = Vec::new(alloc);
-    'items: for item in items {
-        values.push(item_object(alloc, item)?)?;
-    }
-    Ok(Value::Array(values))
-}
-
-#[tactic(auto, unfolding(crate::specs::Written::list_params))]
-fn list_params(alloc: Global, uri: &Words, epoch: u64, items: Value) -> Result<Value, NoMemory>
-    ensures { IfOk result (λ value. view value ≡ list_params uri.now epoch (view items)) }
-{
-    json!(in alloc; {"diagnostics": items, "epoch": epoch, "uri": uri.as_str()})
 }

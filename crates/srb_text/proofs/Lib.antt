@@ -1,4 +1,5 @@
 mod Examples
+pub mod EndLemmas
 pub mod SortedLemmas
 pub mod TableLemmas
 pub mod LineLemmas

@@ -1,10 +1,11 @@
 //! The table of the places at which the lines of a text start, in bytes.
-ghost use Rattle.std.specs.Prelude.{◌≡◌, ◌+◌, ◌-◌, ◌^◌, ◌<◌, ◌≤◌, List, ◌++◌, length, take, drop, map, nat_le, ◌==◌, if◌then◌else◌, All, IfOk, OnOk};
+ghost use Rattle.std.specs.Prelude.{◌≡◌, ◌+◌, ◌-◌, ◌^◌, ◌<◌, ◌≤◌, List, [], ◌∷◌, ◌++◌, length, take, drop, map, slice_index, nat_le, ◌==◌, if◌then◌else◌, All, IfOk, OnOk};
 ghost use Rattle.std.specs.List.{prefix_len};
 ghost use Rattle.std.specs.List.Sorted.{IsStrictlyIncreasing};
-ghost use Rattle.srb_text.specs.Lines.{begins_with_line_feed};
+ghost use Rattle.srb_text.specs.Lines.{begins_with_line_feed, ends_line};
 ghost use Rattle.srb_text.specs.LineStarts.{starts_after, line_starts};
 
+use memchr::memchr2;
 use std::alloc::{AllocError, Global};
 
 const LINE_FEED: u8 = b'\n';
@@ -37,6 +38,25 @@ fn line_feed_follows(bytes: &[u8], count: usize, rest: &[u8]) -> bool
     rest[0] == LINE_FEED
 }
 
+// Whether a line ends after the byte at a place; after the bytes is `rest`.
+fn ends_line(bytes: &[u8], at: usize, rest: &[u8]) -> bool
+    requires { at < length bytes.now }
+    ensures { result ≡ ends_line (slice_index bytes.now at) (drop (at + 1) bytes.now ++ rest.now) }
+{
+    bytes[at] == LINE_FEED
+        || (bytes[at] == CARRIAGE_RETURN && !line_feed_follows(bytes, at + 1, rest))
+}
+
+// Adds a start, if a line starts there.
+fn push_if(starts: &mut Vec<u32>, is_start: bool, start: u32) -> Result<(), AllocError>
+    ensures { OnOk result (starts.new.items ≡ starts.old.items ++ (if is_start then start ∷ [] else [])) }
+{
+    if is_start {
+        starts.push(start)?;
+    }
+    Ok(())
+}
+
 // Adds where lines start after the bytes, which begin at `at` and before `rest`.
 pub fn push_starts(
     starts: &mut Vec<u32>,
@@ -47,13 +67,11 @@ pub fn push_starts(
     requires { at + length bytes.now < 2 ^ 32 }
     ensures { OnOk result (starts.new.items ≡ starts.old.items ++ starts_after at bytes.now rest.now) }
 {
-    for i in 0..bytes.len() {
-        let byte = bytes[i];
-        if byte == LINE_FEED
-            || (byte == CARRIAGE_RETURN && !line_feed_follows(bytes, i + 1, rest))
-        {
-            starts.push(at + i as u32 + 1)?;
-        }
+    let mut i = 0;
+    'ends: while let Some(len) = memchr2(LINE_FEED, CARRIAGE_RETURN, &bytes[i..]) {
+        let end = i + len;
+        push_if(starts, ends_line(bytes, end, rest), at + end as u32 + 1)?;
+        i = end + 1;
     }
     Ok(())
 }
