@@ -81,20 +81,38 @@ fn in_body<'w>(w: &'w World, body: &Name, name: &Name) -> Option<&'w Name>
     }
 }
 
-// The constant of this name in the ancestors of the innermost body.
+// The constant of this name in the ancestors of the innermost body, where no enclosing body has one: so it is not in that body itself.
 fn around<'w>(w: &'w World, scope: &Names, name: &Name, position: Position) -> Option<&'w Name>
+    requires { rules.in_bodies (within_at w.now) scope.now name.now ≡ None }
     ensures { option_copied result
         ≡ rules.in_members (within_at w.now) (rules.around (ancestors_at w.now position) scope.now) name.now }
 {
     match scope.split() {
         None => None,
         Some((innermost, _bodies)) => match position {
-            Position::Parent => in_alone(w, innermost, name),
+            Position::Parent => None,
             Position::Value => match w.lin(innermost) {
                 None => None,
-                Some(lin) => in_members(w, lin, name),
+                Some(lin) => in_others(w, innermost, lin, name),
             },
         },
+    }
+}
+
+// The first constant of this name in some ancestors, where `member`, mostly the first of them, has none.
+fn in_others<'w>(w: &'w World, member: &Name, members: &Names, name: &Name) -> Option<&'w Name>
+    requires { rules.in_member (within_at w.now) member.now name.now ≡ None }
+    ensures { option_copied result ≡ rules.in_members (within_at w.now) members.now name.now }
+{
+    match members.split() {
+        None => None,
+        Some((first, others)) => {
+            if first == member {
+                in_members(w, others, name)
+            } else {
+                in_members(w, members, name)
+            }
+        }
     }
 }
 
