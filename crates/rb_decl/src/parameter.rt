@@ -252,11 +252,12 @@ pub fn row<'a>(
     for _turn in 0..depth {
         let (next, left) = parameter(alloc, depth, stage, &names, rest)?;
         stage = stage_after(next.kind);
-        note(&mut names, &next.name)?;
-        found.push(next)?;
         if is_over(stage, left) {
+            found.push(next)?;
             return Ok((found, left));
         }
+        note(&mut names, &next.name)?;
+        found.push(next)?;
         rest = after_comma(in_brackets, left);
     }
     Err(Stop::Refused(rest))

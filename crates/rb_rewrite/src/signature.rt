@@ -471,6 +471,20 @@ fn has_result<'a>(said: Signature<'a>) -> bool
     !is_missing(said.returned) || said.is_void
 }
 
+/// Whether the arguments of `params` name these parameters. One argument for one parameter, the usual case, takes no memory.
+fn are_parameters(
+    alloc: Global,
+    parameters: &[Parameter<Tree>],
+    arguments: Option<&[Argument<Tree>]>,
+) -> Result<bool, NoMemory>
+    ensures { IfOk result (λ b. b ≡ spec.are_names_of parameters.now (spec.named (option_map (λ a. a.now) arguments.entry))) }
+{
+    match (arguments, parameters) {
+        (Some([Argument::Keyword { name, .. }]), [parameter]) => Ok(parameter.name == *name),
+        _ => Ok(are_names_of(parameters, &named(alloc, arguments)?)),
+    }
+}
+
 /// Whether what was said is a whole signature of a method with these parameters.
 fn fits<'a>(
     alloc: Global,
@@ -479,8 +493,8 @@ fn fits<'a>(
 ) -> Result<bool, NoMemory>
     ensures { IfOk result (λ b. b ≡ spec.fits parameters.now (spec.seen_signature said.entry)) }
 {
-    let names = named(alloc, said.params)?;
-    Ok(has_result(said) && are_names_of(parameters, &names))
+    let are_parameters = are_parameters(alloc, parameters, said.params)?;
+    Ok(has_result(said) && are_parameters)
 }
 
 /// The well-formed signature of a method with these parameters that a `sig` statement is. `None` exactly where it is malformed.

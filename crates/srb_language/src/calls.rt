@@ -25,11 +25,11 @@ fn arg(given: &Given) -> Result<Arg, NoMemory>
 fn positional(alloc: Global, given: &[Given]) -> Result<Items<Arg>, NoMemory>
     ensures { IfOk result (λ gs. gs ≡ map spec.arg_of (map seen_given given.now)) }
 {
-    let mut positional = Items::new(alloc);
+    let mut positional = Vec::with_capacity(alloc, given.len())?;
     'given: for argument in given {
         positional.push(arg(argument)?)?;
     }
-    Ok(positional)
+    Ok(Items::from_vec(positional))
 }
 
 /// An argument by name.
@@ -47,11 +47,11 @@ fn key(named: &Named) -> Result<KeyArg, NoMemory>
 fn keys(alloc: Global, named: &[Named]) -> Result<Items<KeyArg>, NoMemory>
     ensures { IfOk result (λ ks. ks ≡ map spec.key_of (map seen_named named.now)) }
 {
-    let mut keys = Items::new(alloc);
+    let mut keys = Vec::with_capacity(alloc, named.len())?;
     'named: for argument in named {
         keys.push(key(argument)?)?;
     }
-    Ok(keys)
+    Ok(Items::from_vec(keys))
 }
 
 /// The number of a block's names.

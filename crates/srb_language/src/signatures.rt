@@ -10,22 +10,20 @@ ghost use Rattle.rb_outline.specs.Outlines.{outline_of};
 use rb_outline::outline;
 use rb_tree::syntax::Tree;
 use srb_judgement::signature::{Signature, Typed};
-use srb_sig::{SigEnd, SigRead, read_sig};
+use srb_sig::{SigEnd, SigRead, read_sig_of};
 use srb_terms::{Items, Names, NoMemory, Param, ParamShape, SigText, Ty, World};
 use std::alloc::{AllocError, Global};
 
 /// The parameters with their types.
-fn typed(alloc: Global, params: &[Param]) -> Result<Items<Typed>, NoMemory>
-    ensures { IfOk result (λ ts. map seen_typed ts ≡ map spec.typed_param params.now) }
+fn typed(alloc: Global, params: Items<Param>) -> Result<Items<Typed>, NoMemory>
+    ensures { IfOk result (λ ts. map seen_typed ts ≡ map spec.typed_param params) }
 {
-    let mut typed = Items::new(alloc);
-    'params: for param in params {
-        typed.push(Typed {
-            name: param.name.copied()?,
-            ty: param.ty.copied()?,
-        })?;
+    let mut typed = Vec::with_capacity(alloc, params.len())?;
+    'params: for param in params.into_vec() {
+        let Param { name, ty, .. } = param;
+        typed.push(Typed { name, ty })?;
     }
-    Ok(typed)
+    Ok(Items::from_vec(typed))
 }
 
 /// The type against which results are checked.
@@ -39,25 +37,16 @@ fn checked_result(checked: bool, ty: Ty) -> Option<Ty>
 fn signature_read(alloc: Global, read: SigRead) -> Result<Signature, NoMemory>
     ensures { IfOk result (λ s. seen_signature s ≡ spec.seen_sig read) }
 {
-    let params = typed(alloc, read.params.as_slice())?;
-    Ok(Signature {
+    let SigRead {
         params,
-        result: checked_result(read.checked, read.result),
+        result,
+        checked,
+        ..
+    } = read;
+    Ok(Signature {
+        params: typed(alloc, params)?,
+        result: checked_result(checked, result),
     })
-}
-
-/// The shapes of parameters as a list of its own.
-fn shapes(alloc: Global, params: &[ParamShape]) -> Result<Items<ParamShape>, NoMemory>
-    ensures { IfOk result (λ ps. ps ≡ params.now) }
-{
-    let mut shapes = Items::new(alloc);
-    'params: for param in params {
-        shapes.push(ParamShape {
-            name: param.name.copied()?,
-            kind: param.kind,
-        })?;
-    }
-    Ok(shapes)
 }
 
 /// The signature of a method with these parameters that a `sig` statement is; `None` where it is malformed.
@@ -73,8 +62,7 @@ pub fn signature(
     let text = SigText {
         tree: outline(alloc, sig)?,
     };
-    let shapes = shapes(alloc, params)?;
-    match read_sig(alloc, w, scope, &shapes, &text) {
+    match read_sig_of(alloc, w, scope, params, &text) {
         Ok(read) => Ok(Some(signature_read(alloc, read)?)),
         Err(SigEnd::Malformed) => Ok(None),
         Err(SigEnd::NoMemory) => Err(AllocError),

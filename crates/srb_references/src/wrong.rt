@@ -1,6 +1,6 @@
 //! The errors of what a program mentions, in one walk.
 
-ghost use Rattle.std.specs.Prelude.{◌≡◌, ◌++◌, List, IfOk, OnOk};
+ghost use Rattle.std.specs.Prelude.{◌≡◌, [], ◌++◌, List, IfOk, OnOk};
 ghost use Rattle.std.specs.List.{flat_map};
 ghost use Rattle.rb_tree.specs.declared.syntax.Node.{out-Node};
 ghost use Rattle.srb_references.specs.MalformedTypes as types;
@@ -12,6 +12,7 @@ ghost use Rattle.srb_terms.specs.declared.fact.Fact.{Fact};
 
 use crate::own::with_own;
 use crate::reading::Reading;
+use crate::reference::Reference;
 use crate::visit::{Visit, Worklist};
 use crate::walk::{is_type_part, with_parts};
 use crate::{errors, malformed};
@@ -31,18 +32,22 @@ struct Wrong {
     types: Items<Diag>,
 }
 
-/// Adds an error for each reference of a part itself that isn't found.
+/// Adds an error for each reference of a part itself that isn't found. The list of these references is empty before and after it.
 fn check_references<'a>(
     alloc: Global,
     world: &World,
     visit: &Visit<'a>,
+    own: &mut Items<Reference>,
     found: &mut Items<Diag>,
 ) -> Result<(), NoMemory>
-    ensures { OnOk result (found.new ≡ found.old ++ spec.own_errors (spec.found_at world.now) (seen_visit visit.now)) }
+    requires { own.old ≡ [] }
+    ensures errors { OnOk result (found.new ≡ found.old ++ spec.own_errors (spec.found_at world.now) (seen_visit visit.now)) }
+    ensures empty { OnOk result (own.new ≡ []) }
 {
-    let mut own = Items::new(alloc);
-    with_own(alloc, visit, &mut own)?;
-    errors::check_each(alloc, world, own.as_slice(), found)
+    with_own(alloc, visit, own)?;
+    errors::check_each(alloc, world, own.as_slice(), found)?;
+    own.truncate(0);
+    Ok(())
 }
 
 /// Adds an error where a part is a malformed type expression.
@@ -68,10 +73,11 @@ fn wrong_of<'a>(alloc: Global, world: &World, tree: &'a Tree) -> Result<Wrong, N
 {
     let mut references = Items::new(alloc);
     let mut types = Items::new(alloc);
+    let mut own = Items::new(alloc);
     let mut list = Worklist::with_room(alloc, ROOM)?;
     list.push(Reading::Plain, &Names::new(), tree)?;
     'list: while let Some(visit) = list.pop() {
-        check_references(alloc, world, &visit, &mut references)?;
+        check_references(alloc, world, &visit, &mut own, &mut references)?;
         check_type(alloc, world, &visit, &mut types)?;
         with_parts(alloc, &visit, &mut list)?;
     }

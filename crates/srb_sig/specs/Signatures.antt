@@ -17,6 +17,7 @@ use Rattle.srb_sig.specs.declared.typing.Typed as lent
 use Rattle.srb_sig.specs.declared.wrong.WrongPart.{WrongPart}
 use Rattle.srb_sig.specs.Chains.{Said, params_of, well_formed}
 use Rattle.srb_sig.specs.Forms.{words_of, parts_of}
+use Rattle.srb_sig.specs.Named.{entries_of}
 use Rattle.srb_sig.specs.Types.{none_yet, reading}
 use Rattle.srb_sig.specs.Views.{View}
 
@@ -91,7 +92,7 @@ part_of p = p.part
 
 -- what lent types are
 abbrev pub seen_types : lent.Typed → Types
-seen_types t = record { named = t.named.entries; result = t.result; notes = t.notes }
+seen_types t = record { named = entries_of t.named; result = t.result; notes = t.notes }
 
 -- what a signature says of a method with these parameters, in a body with this scope
 abbrev pub sig_read : View → List (List ℕ) → List ParamShape → Said → SigRead

@@ -77,12 +77,26 @@ fn has_result<'a>(said: Said<'a>) -> bool
     !is_missing(said.returned) || said.is_void
 }
 
+/// Whether keyword arguments name these parameters. One argument for one parameter, the usual case, takes no memory.
+fn are_parameters(
+    alloc: Global,
+    shapes: &[ParamShape],
+    arguments: &[Outline],
+) -> Result<bool, NoMemory>
+    ensures { IfOk result (λ b. b ≡ spec.are_names_of shapes.now (spec.names_from [] arguments.now)) }
+{
+    match (arguments, shapes) {
+        ([argument], [shape]) => Ok(shape.name.as_str() == argument.label.words.as_str()),
+        _ => Ok(are_names_of(shapes, &names_of(alloc, arguments)?)),
+    }
+}
+
 /// Whether what was said is a whole signature of a method with these parameters.
 fn fits<'a>(alloc: Global, shapes: &[ParamShape], said: Said<'a>) -> Result<bool, NoMemory>
     ensures { IfOk result (λ b. b ≡ spec.fits shapes.now (spec.seen_said said.entry)) }
 {
-    let names = names_of(alloc, params_of(said.params))?;
-    Ok(has_result(said) && are_names_of(shapes, &names))
+    let are_parameters = are_parameters(alloc, shapes, params_of(said.params))?;
+    Ok(has_result(said) && are_parameters)
 }
 
 /// The well-formed signature of a method with these parameters that a `sig` statement is. `None` exactly where it is malformed.

@@ -11,7 +11,7 @@ use crate::chain::Said;
 use crate::fitting::well_formed;
 use crate::typing::{Typed, all_typed, types_of};
 use crate::wrong::WrongPart;
-use srb_terms::{Items, Names, NoMemory, Param, Shapes, SigText, Ty, World};
+use srb_terms::{Items, Names, NoMemory, Param, ParamShape, Shapes, SigText, Ty, World};
 use std::alloc::Global;
 
 /// What a well-formed signature says of a method.
@@ -51,11 +51,11 @@ impl From<NoMemory> for SigEnd {
 fn numbers(alloc: Global, wrong: &[WrongPart]) -> Result<Items<u32>, NoMemory>
     ensures { IfOk result (λ ns. ns ≡ map spec.part_of wrong.now) }
 {
-    let mut numbers = Items::new(alloc);
+    let mut numbers = Vec::with_capacity(alloc, wrong.len())?;
     'wrong: for part in wrong {
         numbers.push(part.part)?;
     }
-    Ok(numbers)
+    Ok(Items::from_vec(numbers))
 }
 
 /// What a well-formed signature says.
@@ -63,7 +63,7 @@ fn sig_read<'a>(
     alloc: Global,
     w: &World,
     scope: &Names,
-    params: &Shapes,
+    params: &[ParamShape],
     said: Said<'a>,
 ) -> Result<SigRead, NoMemory>
     ensures { IfOk result (λ r. r ≡ spec.sig_read (view_at w.now) scope.now params.now (chains.seen_said said.entry)) }
@@ -74,7 +74,7 @@ fn sig_read<'a>(
         notes,
     } = types_of(alloc, w, scope, said)?;
     Ok(SigRead {
-        params: all_typed(alloc, &named, params.as_slice())?,
+        params: all_typed(alloc, &named, params)?,
         result,
         checked: !said.is_abstract,
         bad: numbers(alloc, notes.wrong.as_slice())?,
@@ -86,12 +86,12 @@ fn sig_in(
     alloc: Global,
     w: &World,
     scope: &Names,
-    params: &Shapes,
+    params: &[ParamShape],
     s: &SigText,
 ) -> Result<SigRead, SigEnd>
     ensures { MatchResult result (spec.IsSigRead (view_at w.now) scope.now params.now s.now.tree) (spec.IsSigEnd params.now s.now.tree) }
 {
-    match well_formed(alloc, params.as_slice(), &s.tree)? {
+    match well_formed(alloc, params, &s.tree)? {
         None => Err(SigEnd::Malformed),
         Some(said) => Ok(sig_read(alloc, w, scope, params, said)?),
     }
@@ -105,6 +105,20 @@ pub fn read_sig(
     w: &World,
     scope: &Names,
     params: &Shapes,
+    s: &SigText,
+) -> Result<SigRead, SigEnd>
+    ensures table { MatchResult result (spec.IsSigRead (view_at w.now) scope.now params.now s.now.tree) (spec.IsSigEnd params.now s.now.tree) }
+    ensures facts { (fs : List Fact) → Stands w.now fs → MatchResult result (spec.IsSigRead (view_of fs) scope.now params.now s.now.tree) (spec.IsSigEnd params.now s.now.tree) }
+{
+    read_sig_of(alloc, w, scope, params.as_slice(), s)
+}
+
+/// As `read_sig`, of parameters that stand in a slice.
+pub fn read_sig_of(
+    alloc: Global,
+    w: &World,
+    scope: &Names,
+    params: &[ParamShape],
     s: &SigText,
 ) -> Result<SigRead, SigEnd>
     ensures table { MatchResult result (spec.IsSigRead (view_at w.now) scope.now params.now s.now.tree) (spec.IsSigEnd params.now s.now.tree) }

@@ -3,6 +3,7 @@
 ghost use Rattle.std.specs.Prelude.{◌≡◌, map, IfOk};
 ghost use Rattle.std.specs.Option.{option_copied};
 ghost use Rattle.srb_sig.specs.Chains as chains;
+ghost use Rattle.srb_sig.specs.Named.{entries_of};
 ghost use Rattle.srb_sig.specs.Signatures as spec;
 ghost use Rattle.srb_sig.specs.Views.{view_at};
 
@@ -10,8 +11,8 @@ use crate::chain::Said;
 use crate::expressions::read;
 use crate::fitting::params_of;
 use crate::forms::parts;
+use crate::named::Named;
 use crate::reading::{Notes, Read, none_yet};
-use indexmap::IndexMap;
 use srb_terms::{Items, Name, Names, NoMemory, Outline, Param, ParamShape, Ty, Words, World};
 use std::alloc::Global;
 
@@ -19,7 +20,7 @@ use std::alloc::Global;
 #[derive(Drop)]
 pub struct Typed {
     /// Those of parameters, by their names.
-    pub named: IndexMap<Name, Ty>,
+    pub named: Named,
     /// That of the result.
     pub result: Ty,
     /// The parts up to the last one.
@@ -31,7 +32,7 @@ fn no_types(alloc: Global) -> Typed
     ensures { spec.seen_types result ≡ spec.no_types }
 {
     Typed {
-        named: IndexMap::new(alloc),
+        named: Named::Empty,
         result: Ty::Untyped,
         notes: none_yet(alloc),
     }
@@ -60,18 +61,13 @@ fn whole(
 }
 
 /// With the type of a keyword argument.
-fn with_type(name: &Words, read: Read, types: Typed) -> Result<Typed, NoMemory>
+fn with_type(alloc: Global, name: &Words, read: Read, types: Typed) -> Result<Typed, NoMemory>
     ensures { IfOk result (λ t. spec.seen_types t ≡ spec.with_type name.now read (spec.seen_types types)) }
 {
     let Read { ty, notes } = read;
-    let Typed {
-        mut named,
-        result,
-        ..
-    } = types;
-    named.insert(Name::from_words(name)?, ty)?;
+    let Typed { named, result, .. } = types;
     Ok(Typed {
-        named,
+        named: named.with(alloc, Name::from_words(name)?, ty)?,
         result,
         notes,
     })
@@ -99,7 +95,7 @@ fn with_value(
         result,
         notes: none_yet(alloc),
     };
-    with_type(name, read, types)
+    with_type(alloc, name, read, types)
 }
 
 /// With the values of a keyword argument: it has one.
@@ -188,8 +184,8 @@ pub fn types_of<'a>(
 }
 
 /// The type that a name has, untyped where it has none.
-fn type_named(named: &IndexMap<Name, Ty>, name: &Name) -> Result<Ty, NoMemory>
-    ensures { IfOk result (λ t. t ≡ spec.type_named named.now.entries name.now) }
+fn type_named(named: &Named, name: &Name) -> Result<Ty, NoMemory>
+    ensures { IfOk result (λ t. t ≡ spec.type_named (entries_of named.now) name.now) }
 {
     match named.get(name) {
         None => Ok(Ty::Untyped),
@@ -198,8 +194,8 @@ fn type_named(named: &IndexMap<Name, Ty>, name: &Name) -> Result<Ty, NoMemory>
 }
 
 /// A parameter with its type.
-fn param_of(named: &IndexMap<Name, Ty>, shape: &ParamShape) -> Result<Param, NoMemory>
-    ensures { IfOk result (λ p. p ≡ spec.param_of named.now.entries shape.now) }
+fn param_of(named: &Named, shape: &ParamShape) -> Result<Param, NoMemory>
+    ensures { IfOk result (λ p. p ≡ spec.param_of (entries_of named.now) shape.now) }
 {
     Ok(Param {
         name: shape.name.copied()?,
@@ -211,14 +207,14 @@ fn param_of(named: &IndexMap<Name, Ty>, shape: &ParamShape) -> Result<Param, NoM
 /// The parameters of a method in their order, with their types.
 pub fn all_typed(
     alloc: Global,
-    named: &IndexMap<Name, Ty>,
+    named: &Named,
     shapes: &[ParamShape],
 ) -> Result<Items<Param>, NoMemory>
-    ensures { IfOk result (λ ps. ps ≡ map (spec.param_of named.now.entries) shapes.now) }
+    ensures { IfOk result (λ ps. ps ≡ map (spec.param_of (entries_of named.now)) shapes.now) }
 {
-    let mut params = Items::new(alloc);
+    let mut params = Vec::with_capacity(alloc, shapes.len())?;
     'shapes: for shape in shapes {
         params.push(param_of(named, shape)?)?;
     }
-    Ok(params)
+    Ok(Items::from_vec(params))
 }

@@ -2,7 +2,7 @@ use Rattle.std.proofs.Common.{MatchResult, subst}
 use Rattle.srb_sig.specs.Signatures.{IsSigEnd, IsSigRead}
 use Rattle.srb_sig.specs.Views.{View}
 use Rattle.srb_sig.proofs.Views.{view-stands}
-use Rattle.srb_sig.proofs.signature.read_sig.Goals as goal
+use Rattle.srb_sig.proofs.signature.read_sig_of.Goals as goal
 
 pub returns-clause-facts : goal.returns-clause-facts
 returns-clause-facts c = λ fs s.
