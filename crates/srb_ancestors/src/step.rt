@@ -109,17 +109,17 @@ fn has(names: &[Name], name: &Name) -> bool
     false
 }
 
-// Adds what a module adds: the names of its list that stand neither in `below` nor here.
+// Adds what the module of this name adds: the names of its list that stand neither in `below` nor here.
 fn add_list(
     alloc: Global,
     lists: &Lists,
     below: &Names,
-    module: &Name,
+    name: &Name,
     here: &mut Vec<Name>,
 ) -> Result<(), NoMemory>
-    ensures { OnOk result (here.new.items ≡ rules.joined below.now here.old.items (list_in (get bytes_eq lists.now) module.now)) }
+    ensures { OnOk result (here.new.items ≡ rules.joined below.now here.old.items (list_in (get bytes_eq lists.now) name.now)) }
 {
-    let list = list_at(lists, module)?;
+    let list = list_at(lists, name)?;
     let mut more = new_names(alloc, here.as_slice(), below, &list)?;
     here.append(&mut more)
 }
