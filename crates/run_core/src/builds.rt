@@ -128,7 +128,7 @@ fn edited_job(
     requires others { (f : Path) (bytes : Bytes) → f ≢ path.now → bytes_at f docs.now.project ≡ Some bytes → IsJobWith f bytes before.now }
     ensures { (old : List File) → IsJobOf old before.now → project_facts docs.now.project ≡ project_facts old → IfOk result (IsJobOf docs.now.project) }
 {
-    edited_files(alloc, docs, path, file, before)?.job_as(before)
+    edited_files(alloc, docs, path, file, before)?.job_as(alloc, before)
 }
 
 // The files of the project, of which one is loaded so and the others are those of the job.

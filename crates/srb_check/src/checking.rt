@@ -26,7 +26,7 @@ use rb_rewrite::attrs;
 use rb_tree::syntax::Tree;
 use srb_conflicts::conflicts;
 use srb_declarations::declarations;
-use srb_infer::infer;
+use srb_infer::{Levels, infer};
 use srb_judgement::errors::is_shown;
 use srb_language::ProjectLanguage;
 use srb_references::mention_errors;
@@ -106,25 +106,31 @@ fn shown(level: Level, mut errors: Vec<Diag>) -> Vec<Diag>
 }
 
 /// The errors of the judgement of a program, after the rewriting of attributes and initializers.
-fn judged(alloc: Global, world: &World, tree: &Tree) -> Result<Items<Diag>, NoMemory>
+fn judged(
+    alloc: Global,
+    world: &World,
+    usual: &Levels,
+    tree: &Tree,
+) -> Result<Items<Diag>, NoMemory>
     ensures { IfOk result (λ errors. errors ≡ judgement.errors_of (language_of (knowledge_at world.now)) (attrs_of tree.now)) }
 {
     let rewritten = attrs(alloc, tree)?;
     let language = ProjectLanguage::new(alloc, world)?;
-    infer(alloc, &language, &rewritten)
+    infer(alloc, usual, &language, &rewritten)
 }
 
 /// Adds the errors of the judgement of a program that the level shows.
 fn add_judged(
     alloc: Global,
     world: &World,
+    usual: &Levels,
     level: Level,
     tree: &Tree,
     found: &mut Items<Diag>,
 ) -> Result<(), NoMemory>
     ensures { OnOk result (found.new ≡ found.old ++ judgement.errors_at (language_of (knowledge_at world.now)) level (attrs_of tree.now)) }
 {
-    let errors = judged(alloc, world, tree)?;
+    let errors = judged(alloc, world, usual, tree)?;
     found.append(Items::from_vec(shown(level, errors.into_vec())))
 }
 
@@ -132,6 +138,7 @@ fn add_judged(
 fn add_type_errors(
     alloc: Global,
     world: &World,
+    usual: &Levels,
     level: Level,
     tree: &Tree,
     found: &mut Items<Diag>,
@@ -139,7 +146,7 @@ fn add_type_errors(
     ensures { (fs : List Fact) → Stands world.now fs → TellsMembers world.now fs → OnOk result (found.new ≡ found.old ++ type_errors fs level tree.now) }
 {
     if shows_types(level) {
-        add_judged(alloc, world, level, tree, found)
+        add_judged(alloc, world, usual, level, tree, found)
     } else {
         Ok(())
     }
@@ -149,13 +156,14 @@ fn add_type_errors(
 fn program_list(
     alloc: Global,
     world: &World,
+    usual: &Levels,
     level: Level,
     tree: &Tree,
 ) -> Result<Vec<Diag>, NoMemory>
     ensures { (fs : List Fact) → Stands world.now fs → TellsMembers world.now fs → IfOk result (λ ds. ds.items ≡ order.arranged (symbol_errors fs level tree.now ++ type_errors fs level tree.now)) }
 {
     let mut found = symbol_errors(alloc, world, level, tree)?;
-    add_type_errors(alloc, world, level, tree, &mut found)?;
+    add_type_errors(alloc, world, usual, level, tree, &mut found)?;
     Ok(arranged(found.into_vec()))
 }
 
@@ -163,6 +171,7 @@ fn program_list(
 fn tree_errors(
     alloc: Global,
     world: &World,
+    usual: &Levels,
     level: Level,
     tree: &Option<Tree>,
 ) -> Result<Vec<Diag>, NoMemory>
@@ -170,7 +179,7 @@ fn tree_errors(
 {
     match tree {
         None => Ok(Vec::new(alloc)),
-        Some(tree) => program_list(alloc, world, level, tree),
+        Some(tree) => program_list(alloc, world, usual, level, tree),
     }
 }
 
@@ -184,12 +193,17 @@ fn one_error(alloc: Global, error: Diag) -> Result<Vec<Diag>, AllocError>
 }
 
 /// The errors that a record tells, under the facts for which the symbol table stands and whose members it tells.
-fn record_errors(alloc: Global, world: &World, file: &FileRec) -> Result<Vec<Diag>, NoMemory>
+fn record_errors(
+    alloc: Global,
+    world: &World,
+    usual: &Levels,
+    file: &FileRec,
+) -> Result<Vec<Diag>, NoMemory>
     ensures { (fs : List Fact) → Stands world.now fs → TellsMembers world.now fs → IfOk result (λ ds. ds.items ≡ record_errors fs file.now) }
 {
     match &file.error {
         Some(error) => one_error(alloc, error.copied()?),
-        None => tree_errors(alloc, world, file.level, &file.tree),
+        None => tree_errors(alloc, world, usual, file.level, &file.tree),
     }
 }
 
@@ -199,6 +213,7 @@ fn record_errors(alloc: Global, world: &World, file: &FileRec) -> Result<Vec<Dia
 pub fn check_file<L: Ledger>(
     alloc: Global,
     world: &World,
+    usual: &Levels,
     file: &FileRec,
     steps: &mut Steps<L>,
 ) -> Result<Vec<Diag>, AllocError>
@@ -207,5 +222,5 @@ pub fn check_file<L: Ledger>(
     ensures counted { steps.new ≡ steps.old + 1 }
 {
     steps.count();
-    record_errors(alloc, world, file)
+    record_errors(alloc, world, usual, file)
 }

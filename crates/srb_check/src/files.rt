@@ -7,6 +7,7 @@ ghost use Rattle.srb_check.specs.Symbols.{project_facts};
 use crate::file::FileRec;
 use crate::job::Job;
 use rb_lex::Lexer;
+use srb_infer::Levels;
 use srb_summary::Summary;
 use srb_table::build;
 use srb_terms::{Boxed, Items, Name, NoMemory};
@@ -92,17 +93,19 @@ impl Files {
         let summaries = summaries(alloc, records.as_slice())?;
         let built = build(alloc, summaries.as_slice())?;
         let world = Boxed::new(alloc, built)?;
-        Ok(Job::with(world, paths, records))
+        let levels = Levels::usual(alloc)?;
+        Ok(Job::with(world, levels, paths, records))
     }
 
     /// The job of these files with the symbol table of `before`, which is shared. It is theirs where the facts are the same.
-    pub fn job_as(self, before: &Job) -> Result<Job, NoMemory>
+    pub fn job_as(self, alloc: Global, before: &Job) -> Result<Job, NoMemory>
         ensures { (project old : List File) → AreLoaded project self → IsJobOf old before.now → project_facts project ≡ project_facts old
             → IfOk result (λ job. IsJobOf project job) }
     {
         let world = before.world()?;
         let Files { paths, records, .. } = self;
-        Ok(Job::with(world, paths, records))
+        let levels = Levels::usual(alloc)?;
+        Ok(Job::with(world, levels, paths, records))
     }
 }
 

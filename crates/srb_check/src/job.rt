@@ -11,6 +11,7 @@ use crate::checking::check_file;
 use crate::file::FileRec;
 use crate::loading::load_by;
 use rb_lex::Lexer;
+use srb_infer::Levels;
 use srb_summary::{Summary, same};
 use srb_terms::{Boxed, Diag, Fact, Items, Name, NoMemory, Steps, World};
 use std::alloc::Global;
@@ -22,6 +23,8 @@ use std::sync::ledger::Ledger;
 #[derive(Drop)]
 pub struct Job {
     world: Boxed<World>,
+    /// What its files are judged by.
+    levels: Levels,
     paths: Items<Name>,
     records: Items<Boxed<FileRec>>,
 }
@@ -47,14 +50,16 @@ impl Job {
     pub fn empty(alloc: Global) -> Result<Job, NoMemory> {
         Ok(Job {
             world: Boxed::new(alloc, World::new(alloc))?,
+            levels: Levels::usual(alloc)?,
             paths: Items::new(alloc),
             records: Items::new(alloc),
         })
     }
 
-    /// The job of these files with this symbol table.
+    /// The job of these files with this symbol table, judged by these levels.
     pub(crate) fn with(
         world: Boxed<World>,
+        levels: Levels,
         paths: Items<Name>,
         records: Items<Boxed<FileRec>>,
     ) -> Job
@@ -63,6 +68,7 @@ impl Job {
     {
         Job {
             world,
+            levels,
             paths,
             records,
         }
@@ -120,6 +126,7 @@ impl Job {
     {
         Ok(Job {
             world: self.world()?,
+            levels: Levels::usual(alloc)?,
             paths: copied_paths(alloc, self.paths.as_slice())?,
             records: copied_records(alloc, self.records.as_slice())?,
         })
@@ -167,7 +174,13 @@ impl Job {
     {
         match self.records.get(index) {
             Some(record) => {
-                let errors = check_file(alloc, self.world.get(), record.get(), steps)?;
+                let errors = check_file(
+                    alloc,
+                    self.world.get(),
+                    &self.levels,
+                    record.get(),
+                    steps,
+                )?;
                 Ok(Items::from_vec(errors))
             }
             None => {

@@ -35,3 +35,4 @@ pub use fresh_check::{fresh, job_of};
 pub use job::{Job, declare_the_same};
 pub use loading::load;
 pub use report::push_report;
+pub use srb_infer::Levels;

@@ -636,32 +636,25 @@ fn program<W: Walk, L: Language>(
     Ok(errors)
 }
 
-/// The errors of the judgement of a program whose nodes nest no deeper than so many levels. It is out of memory where they do.
-fn within<L: Language>(
-    alloc: Global,
-    language: &L,
-    tree: &Tree,
-    depth: u32,
-) -> Result<Items<Diag>, NoMemory>
+/// The errors of the judgement of a program, by as many levels as are tried at most.
+fn by_most<L: Language>(alloc: Global, language: &L, tree: &Tree) -> Result<Items<Diag>, NoMemory>
     ensures { IfOk result (λ errors. errors ≡ errors_of (L.the language.now) tree.now) }
 {
-    let levels = Levels::new(alloc, depth)?;
+    let levels = Levels::most(alloc)?;
     program(alloc, &levels, language, tree)
 }
 
-/// The errors of the judgement of a program. Most programs are shallow, so few levels are tried first.
-pub fn infer<L: Language>(alloc: Global, language: &L, tree: &Tree) -> Result<Items<Diag>, NoMemory>
+/// The errors of the judgement of a program. Most programs nest no deeper than the usual levels, so these are given, and tried first.
+pub fn infer<L: Language>(
+    alloc: Global,
+    usual: &Levels,
+    language: &L,
+    tree: &Tree,
+) -> Result<Items<Diag>, NoMemory>
     ensures { IfOk result (λ errors. errors ≡ errors_of (L.the language.now) tree.now) }
 {
-    match within(alloc, language, tree, SHALLOW) {
+    match program(alloc, usual, language, tree) {
         Ok(errors) => Ok(errors),
-        Err(_) => within(alloc, language, tree, DEEPEST),
+        Err(_) => by_most(alloc, language, tree),
     }
 }
-
-/// How deep the nodes of most programs nest.
-const SHALLOW: u32 = 64;
-
-/// How many levels are tried at most. The parser refuses what nests deeper than 200, and what nests once is a few nodes in one another; that
-/// this is enough for every program isn't proved.
-const DEEPEST: u32 = 2048;

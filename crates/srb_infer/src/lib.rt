@@ -11,3 +11,4 @@ mod levels;
 mod walk;
 
 pub use bodies::infer;
+pub use levels::Levels;
