@@ -5,7 +5,7 @@ use denote.Struct.Declared as struct
 use denote.RattleType.{RattleType}
 use denote.Struct.Struct.{Struct}
 use denote.Struct.Tuple.{TupleAt, type_at}
-use denote.Param.Send.{IsSend, IsSync, enum_send, enum_sync, recorded_send, struct_send, struct_sync, sendable}
+use denote.Param.Send.{IsSend, IsSync, enum_send, enum_sync, recorded_send, struct_send, struct_sync, sendable, view_send, view_sync}
 use denote.Param.SendFields.{as_row_send, as_row_sync, declared_send, declared_sync}
 use Rattle.std.proofs.Common.{ℕ, List, [], ◌∷◌}
 use Rattle.std.proofs.Crossing.{crosses}
@@ -15,6 +15,7 @@ use Rattle.indexmap.proofs.map.IndexMap.TheSendSync as map
 use Rattle.srb_terms.specs.contracts.fact.Fact
 use Rattle.srb_terms.specs.contracts.fact.Given
 use Rattle.srb_terms.specs.contracts.fact.ParamShape
+use Rattle.srb_terms.specs.contracts.name.Name
 use Rattle.srb_terms.specs.contracts.names.Names
 use Rattle.srb_terms.specs.contracts.outline.Outline
 use Rattle.srb_terms.specs.contracts.outline.SigText
@@ -61,9 +62,12 @@ use Rattle.rb_tree.proofs.syntax.Test.TheSendSync as test
 use Rattle.rb_tree.proofs.syntax.Unary.TheSendSync as unary
 use Rattle.rb_tree.proofs.syntax.Visibility.TheSendSync as visibility
 use Rattle.rb_tree.proofs.syntax.When.TheSendSync as when
+use Rattle.srb_infer.specs.contracts.levels.Levels
+use Rattle.srb_infer.proofs.levels.Levels.TheLaws.TheKnot as levels
 use Rattle.srb_summary.specs.contracts.list.Summary
 use Rattle.srb_check.specs.contracts.file.FileRec
 use Rattle.srb_check.specs.contracts.job.Job
+use Rattle.srb_check.specs.contracts.job.Job.TheInside as Inside
 use Rattle.run_queues.specs.contracts.pass.ResPass
 use Rattle.run_queues.specs.contracts.results.Results
 use Rattle.run_queues.proofs.pass.ResPass.TheSendSync as pass
@@ -291,24 +295,36 @@ file_sync =
     let t = tree_sync in
     declared_sync FileRec.the_type (search (text.the_sync, sendable) depth 20, (level.the_sync, (search (diag.the_sync, sendable) depth 20, (search sendable depth 20, (summary_sync, tt)))))
 
-pub job_send : IsSend Job.the_row
-job_send =
+levels_send : IsSend Levels.the_row
+levels_send = search (levels.crosses, crosses, sendable) depth 40
+
+levels_sync : IsSync Levels.the_row
+levels_sync = search (levels.crosses, crosses, sendable) depth 40
+
+inside_send : IsSend Inside.the_row
+inside_send =
     let w = world_send in let v = world_sync in let f = file_send in let g = file_sync in
-    search (name.the_send, holders) depth 20
+    declared_send Inside.the_type (search holders depth 20, (levels_send, (items.the_send Name.the_row name.the_send, (search holders depth 20, tt))))
+
+inside_sync : IsSync Inside.the_row
+inside_sync =
+    let w = world_send in let v = world_sync in let f = file_send in let g = file_sync in
+    declared_sync Inside.the_type (search holders depth 20, (levels_sync, (items.the_sync Name.the_row name.the_sync, (search holders depth 20, tt))))
+
+pub job_send : IsSend Job.the_row
+job_send = view_send _ _ _ _ _ inside_send
 
 pub job_sync : IsSync Job.the_row
-job_sync =
-    let w = world_send in let v = world_sync in let f = file_send in let g = file_sync in
-    search (name.the_sync, holders) depth 20
+job_sync = view_sync _ _ _ _ _ inside_sync
 
-view_send : IsSend JobView.the_row
-view_send = let s = job_send in let y = job_sync in search (boxed.the_send, sendable) depth 20
+job_view_send : IsSend JobView.the_row
+job_view_send = let s = job_send in let y = job_sync in search (boxed.the_send, sendable) depth 20
 
 pub pass_send : IsSend (ResPass.the_row JobView.the_row ghosts)
-pass_send = pass.the_send JobView.the_row ghosts view_send
+pass_send = pass.the_send JobView.the_row ghosts job_view_send
 
 pub results_sync : IsSync (Results.the_row JobView.the_row ghosts)
-results_sync = results.the_sync JobView.the_row ghosts view_send
+results_sync = results.the_sync JobView.the_row ghosts job_view_send
 
 -- ---- closures
 
